@@ -1,0 +1,538 @@
+use crate::engine::{self, Refusal, Terms};
+use crate::record::{numbers, Record, MOST_MONTH_BLOCKS, MOST_UNIT_BLOCKS, RECORD_BYTES};
+
+fn bytes(values: &[u32]) -> Vec<u8> {
+    values
+        .iter()
+        .flat_map(|value| value.to_le_bytes())
+        .collect()
+}
+
+fn values(bytes: &mut [u8]) -> Vec<u64> {
+    numbers(bytes).iter().map(|number| number.get()).collect()
+}
+
+/// The output of a block, list by list.
+#[derive(Debug, PartialEq)]
+struct Block {
+    loss: Vec<u64>,
+    set_off: Vec<u64>,
+    underdrawn: Vec<u64>,
+    shortfall: Vec<u64>,
+    unaccounted: Vec<u64>,
+    remainder: Vec<u64>,
+}
+
+/// The output of a closing, list by list.
+#[derive(Debug, PartialEq)]
+struct Closing {
+    drawn: Vec<u64>,
+    charge: Vec<u64>,
+    lapsed: Vec<u64>,
+    bank: Vec<u64>,
+    open: Vec<u64>,
+    supplied: Vec<u64>,
+}
+
+struct Agreement {
+    generators: u32,
+    consumers: u32,
+    rate: u32,
+    cycle: u32,
+    months_gone: u32,
+    generator_list: Vec<u32>,
+    pair_list: Vec<u32>,
+}
+
+impl Agreement {
+    fn a() -> Agreement {
+        Agreement {
+            generators: 1,
+            consumers: 2,
+            rate: 1_000,
+            cycle: 2,
+            months_gone: 0,
+            generator_list: vec![1, 1_000, 800],
+            pair_list: vec![1, 1, 1_000, 500],
+        }
+    }
+
+    /// Every kind with its capacity and its loss, all linked to one consumer.
+    fn to_one_consumer(kinds: &[u32], capacities: &[u32], losses: &[u32]) -> Agreement {
+        let capacity_of = kinds.iter().zip(capacities);
+        let links = kinds.iter().map(|_| 1);
+        Agreement {
+            generators: kinds.len() as u32,
+            consumers: 1,
+            generator_list: capacity_of
+                .flat_map(|(kind, kw)| [*kind, *kw, *kw])
+                .collect(),
+            pair_list: links.chain(losses.iter().copied()).collect(),
+            ..Agreement::a()
+        }
+    }
+
+    fn open_into(&self, record: &mut [u8]) -> Result<(), Refusal> {
+        let terms = Terms {
+            generators: self.generators,
+            consumers: self.consumers,
+            rate: self.rate,
+            cycle: self.cycle,
+            months_gone: self.months_gone,
+        };
+        engine::open(
+            &terms,
+            &bytes(&self.generator_list),
+            &bytes(&self.pair_list),
+            record,
+        )
+    }
+
+    fn opened(&self) -> Unit {
+        let mut record = vec![0xee; RECORD_BYTES];
+        self.open_into(&mut record).unwrap();
+        Unit {
+            generators: self.generators as usize,
+            consumers: self.consumers as usize,
+            record,
+        }
+    }
+
+    /// The refusal of an opening, which leaves the record's bytes.
+    fn refused(&self) -> Refusal {
+        let mut record = vec![0xee; RECORD_BYTES];
+        let refusal = self.open_into(&mut record).unwrap_err();
+        assert!(record.iter().all(|byte| *byte == 0xee));
+        refusal
+    }
+}
+
+#[derive(Clone)]
+struct Unit {
+    generators: usize,
+    consumers: usize,
+    record: Vec<u8>,
+}
+
+impl Unit {
+    fn a() -> Unit {
+        Agreement::a().opened().scheduled(&[100, 200], &[1, 1])
+    }
+
+    fn scheduled(mut self, kw: &[u32], ranks: &[u32]) -> Unit {
+        engine::schedule(&mut self.record, &bytes(kw), &bytes(ranks)).unwrap();
+        self
+    }
+
+    fn record(&mut self) -> &mut Record {
+        Record::over(&mut self.record).unwrap()
+    }
+
+    fn block_output(&self) -> Vec<u8> {
+        let (g, c) = (self.generators, self.consumers);
+        vec![0xee; 8 * (4 * g * c + g + c)]
+    }
+
+    fn closing_output(&self) -> Vec<u8> {
+        let (g, c) = (self.generators, self.consumers);
+        vec![0xee; 8 * (g * c + 3 * g + 2 * c)]
+    }
+
+    fn block(&mut self, entry: &[u32], exit: &[u32]) -> Block {
+        let mut output = self.block_output();
+        engine::block(&mut self.record, &bytes(entry), &bytes(exit), &mut output).unwrap();
+        let pairs = self.generators * self.consumers;
+        let mut values = values(&mut output).into_iter();
+        let mut list = |count| values.by_ref().take(count).collect();
+        Block {
+            loss: list(pairs),
+            set_off: list(pairs),
+            underdrawn: list(pairs),
+            shortfall: list(pairs),
+            unaccounted: list(self.generators),
+            remainder: list(self.consumers),
+        }
+    }
+
+    fn close(&mut self) -> Closing {
+        let mut output = self.closing_output();
+        engine::close(&mut self.record, &mut output).unwrap();
+        let mut values = values(&mut output).into_iter();
+        let mut list = |count| values.by_ref().take(count).collect();
+        Closing {
+            drawn: list(self.generators * self.consumers),
+            charge: list(self.generators),
+            lapsed: list(self.generators),
+            bank: list(self.generators),
+            open: list(self.consumers),
+            supplied: list(self.consumers),
+        }
+    }
+
+    /// The refusal of a schedule, which leaves the record's bytes; likewise those below.
+    fn refused_schedule(&mut self, kw: &[u32], ranks: &[u32]) -> Refusal {
+        let before = self.record.clone();
+        let result = engine::schedule(&mut self.record, &bytes(kw), &bytes(ranks));
+        assert_eq!(self.record, before);
+        result.unwrap_err()
+    }
+
+    fn refused_block(&mut self, entry: &[u32], exit: &[u32]) -> Refusal {
+        let before = self.record.clone();
+        let mut output = self.block_output();
+        let result = engine::block(&mut self.record, &bytes(entry), &bytes(exit), &mut output);
+        assert_eq!(self.record, before);
+        assert!(output.iter().all(|byte| *byte == 0xee));
+        result.unwrap_err()
+    }
+
+    fn refused_close(&mut self) -> Refusal {
+        let before = self.record.clone();
+        let mut output = self.closing_output();
+        let result = engine::close(&mut self.record, &mut output);
+        assert_eq!(self.record, before);
+        assert!(output.iter().all(|byte| *byte == 0xee));
+        result.unwrap_err()
+    }
+}
+
+#[test]
+fn p1_first_line_of_agreement_a() {
+    let block = Unit::a().block(&[70_001], &[20_000, 60_000]);
+    assert_eq!(
+        block,
+        Block {
+            loss: vec![2_334, 2_334],
+            set_off: vec![20_000, 44_334],
+            underdrawn: vec![999, 0],
+            shortfall: vec![0, 0],
+            unaccounted: vec![0],
+            remainder: vec![0, 15_666],
+        }
+    );
+    let part = |c: usize| block.loss[c] + block.set_off[c] + block.underdrawn[c];
+    assert_eq!((part(0), part(1)), (23_333, 46_668));
+}
+
+#[test]
+fn p2_and_p3_closings_of_agreement_a() {
+    let mut unit = Unit::a();
+    unit.block(&[70_001], &[20_000, 60_000]);
+    unit.block(&[30_000], &[5_000, 0]);
+    assert_eq!(unit.record().by_generator.pending[0].get(), 23_999);
+    assert_eq!(
+        unit.close(),
+        Closing {
+            drawn: vec![0, 15_666],
+            charge: vec![2_400],
+            lapsed: vec![0],
+            bank: vec![5_933],
+            open: vec![0, 15_666],
+            supplied: vec![0, 0],
+        }
+    );
+    let totals = &unit.record().by_generator;
+    let equation = [
+        totals.injected,
+        totals.unaccounted,
+        totals.loss,
+        totals.set_off,
+        totals.inadvertent,
+        totals.charge,
+        totals.drawn,
+        totals.lapsed,
+        totals.bank,
+        totals.pending,
+    ];
+    assert_eq!(
+        equation.map(|run| run[0].get()),
+        [100_001, 0, 6_668, 69_334, 0, 2_400, 15_666, 0, 5_933, 0]
+    );
+
+    unit.block(&[0], &[0, 0]);
+    let closing = unit.close();
+    assert_eq!((closing.lapsed, closing.bank), (vec![5_933], vec![0]));
+    assert_eq!(unit.record().months_gone.get(), 0);
+}
+
+#[test]
+fn p4_shortfall_of_a_scheduled_generator() {
+    let unit = Agreement::to_one_consumer(&[0], &[40], &[1_000]).opened();
+    let block = unit.scheduled(&[40], &[1]).block(&[7_000], &[10_000]);
+    assert_eq!(
+        (block.set_off, block.shortfall, block.remainder),
+        (vec![6_300], vec![2_700], vec![1_000])
+    );
+}
+
+#[test]
+fn p5_excess_of_a_scheduled_generator() {
+    let unit = Agreement::to_one_consumer(&[0], &[40], &[1_000]).opened();
+    let mut unit = unit.scheduled(&[40], &[1]);
+    let block = unit.block(&[12_000], &[4_000]);
+    assert_eq!(block.unaccounted, [2_000]);
+    assert_eq!(unit.record().by_generator.inadvertent[0].get(), 5_000);
+    assert_eq!(unit.record().by_generator.pending[0].get(), 0);
+}
+
+#[test]
+fn p6_and_p7_inter_se_order() {
+    let unit = Agreement::to_one_consumer(&[0, 0], &[40, 40], &[0, 0]).opened();
+    let mut p6 = unit.clone().scheduled(&[40, 40], &[2, 1]);
+    assert_eq!(
+        p6.block(&[10_000, 10_000], &[12_000]).set_off,
+        [2_000, 10_000]
+    );
+    let mut p7 = unit.scheduled(&[40, 40], &[1, 1]);
+    assert_eq!(
+        p7.block(&[10_000, 10_000], &[12_000]).set_off,
+        [10_000, 2_000]
+    );
+}
+
+#[test]
+fn p8_no_kw_scheduled() {
+    let block = Agreement::a().opened().block(&[500], &[0, 0]);
+    assert_eq!(block.unaccounted, [500]);
+}
+
+#[test]
+fn p9_loss_takes_the_whole_part() {
+    let unit = Agreement::to_one_consumer(&[1], &[1], &[1]).opened();
+    let block = unit.scheduled(&[1], &[1]).block(&[1], &[1]);
+    assert_eq!(
+        (block.loss, block.set_off, block.underdrawn),
+        (vec![1], vec![0], vec![0])
+    );
+}
+
+#[test]
+fn p10_slot_50_of_document_003() {
+    let kw = [20_000, 44_000, 320_000];
+    let unit = Agreement::to_one_consumer(&[0, 0, 3], &kw, &[0, 0, 1_000]).opened();
+    let mut unit = unit.scheduled(&kw, &[1, 2, 3]);
+    let block = unit.block(&[5_000_000, 11_000_000, 80_000_000], &[126_000_000]);
+    assert_eq!(block.remainder, [38_000_000]);
+}
+
+#[test]
+fn all_set_off_comes_before_any_shortfall() {
+    let unit = Agreement::to_one_consumer(&[0, 1], &[40, 40], &[0, 0]).opened();
+    let block = unit
+        .scheduled(&[40, 40], &[1, 2])
+        .block(&[4_000, 3_000], &[9_000]);
+    assert_eq!(block.set_off, [4_000, 3_000]);
+    assert_eq!(block.shortfall, [2_000, 0]);
+}
+
+#[test]
+fn a_bank_is_drawn_only_by_linked_consumers_in_their_order() {
+    let agreement = Agreement {
+        generators: 2,
+        rate: 0,
+        generator_list: vec![1, 40, 40, 1, 40, 40],
+        pair_list: vec![0, 1, 1, 1, 0, 0, 0, 0],
+        ..Agreement::a()
+    };
+    let mut unit = agreement.opened().scheduled(&[0, 40, 40, 0], &[1, 2, 3, 1]);
+    unit.block(&[1_000, 1_000], &[0, 0]);
+    let mut unit = unit.scheduled(&[0; 4], &[1, 2, 3, 1]);
+    unit.block(&[0, 0], &[700, 1_500]);
+    let closing = unit.close();
+    assert_eq!(closing.drawn, [0, 1_000, 700, 300]);
+    assert_eq!(
+        (closing.open, closing.supplied),
+        (vec![700, 1_500], vec![0, 200])
+    );
+}
+
+#[test]
+fn refusal_1_unsound_record() {
+    let mut zeros = Unit {
+        record: vec![0; RECORD_BYTES],
+        ..Unit::a()
+    };
+    assert_eq!(
+        zeros.refused_schedule(&[100, 200], &[1, 1]),
+        Refusal::UnsoundRecord
+    );
+    assert_eq!(zeros.refused_block(&[0], &[0, 0]), Refusal::UnsoundRecord);
+    assert_eq!(zeros.refused_close(), Refusal::UnsoundRecord);
+    let mut short = Unit::a();
+    short.record.pop();
+    assert_eq!(short.refused_block(&[0], &[0, 0]), Refusal::UnsoundRecord);
+}
+
+#[test]
+fn refusal_1_for_every_number_made_huge() {
+    for place in 0..RECORD_BYTES / 8 {
+        let mut unit = Unit::a();
+        unit.block(&[70_001], &[20_000, 60_000]);
+        numbers(&mut unit.record)[place].set(u64::MAX);
+        assert_eq!(
+            unit.refused_close(),
+            Refusal::UnsoundRecord,
+            "number {place}"
+        );
+    }
+}
+
+#[test]
+fn refusal_1_for_sums_beyond_64_bits() {
+    let mut unit = Unit::a();
+    let totals = &mut unit.record().by_generator;
+    totals.loss[0].set(1 << 63);
+    totals.set_off[0].set(1 << 63);
+    assert_eq!(unit.refused_block(&[0], &[0, 0]), Refusal::UnsoundRecord);
+}
+
+#[test]
+fn a_scheduled_generator_may_hold_pending_and_bank() {
+    let mut unit = Unit::a();
+    unit.block(&[70_001], &[20_000, 60_000]);
+    unit.record().generator[0].kind.set(0);
+    assert_eq!(unit.close().charge, [100]);
+}
+
+#[test]
+fn refusal_2_range_of_g_and_c_and_lengths() {
+    for (generators, consumers) in [(9, 2), (0, 2), (1, 17), (1, 0), (u32::MAX, u32::MAX)] {
+        let agreement = Agreement {
+            generators,
+            consumers,
+            ..Agreement::a()
+        };
+        assert_eq!(agreement.refused(), Refusal::Length);
+    }
+    let generator_list = vec![1, 1_000, 800, 0];
+    assert_eq!(
+        Agreement {
+            generator_list,
+            ..Agreement::a()
+        }
+        .refused(),
+        Refusal::Length
+    );
+    let pair_list = vec![1, 1, 1_000];
+    assert_eq!(
+        Agreement {
+            pair_list,
+            ..Agreement::a()
+        }
+        .refused(),
+        Refusal::Length
+    );
+    let result = Agreement::a().open_into(&mut vec![0; RECORD_BYTES + 8]);
+    assert_eq!(result, Err(Refusal::Length));
+
+    let mut unit = Unit::a();
+    assert_eq!(unit.refused_schedule(&[0], &[1, 1]), Refusal::Length);
+    assert_eq!(unit.refused_schedule(&[0, 0], &[1]), Refusal::Length);
+    assert_eq!(unit.refused_block(&[], &[0, 0]), Refusal::Length);
+    assert_eq!(unit.refused_block(&[0], &[0]), Refusal::Length);
+    let mut output = unit.block_output();
+    output.push(0);
+    let result = engine::block(&mut unit.record, &bytes(&[0]), &bytes(&[0, 0]), &mut output);
+    assert_eq!(result, Err(Refusal::Length));
+    let result = engine::block(&mut unit.record, &[0; 5], &bytes(&[0, 0]), &mut output[1..]);
+    assert_eq!(result, Err(Refusal::Length));
+    unit.block(&[0], &[0, 0]);
+    assert_eq!(
+        engine::close(&mut unit.record, &mut []),
+        Err(Refusal::Length)
+    );
+}
+
+#[test]
+fn refusals_3_to_6_lowest_first() {
+    let mut agreement = Agreement::a();
+    agreement.months_gone = 2;
+    assert_eq!(agreement.refused(), Refusal::BankTerm);
+    agreement.pair_list[3] = 5_001;
+    assert_eq!(agreement.refused(), Refusal::LinkOrLoss);
+    agreement.generator_list[2] = 400_001;
+    assert_eq!(agreement.refused(), Refusal::Capacity);
+    agreement.generator_list[0] = 4;
+    assert_eq!(agreement.refused(), Refusal::Kind);
+
+    let pair_list = vec![2, 1, 0, 0];
+    assert_eq!(
+        Agreement {
+            pair_list,
+            ..Agreement::a()
+        }
+        .refused(),
+        Refusal::LinkOrLoss
+    );
+    assert_eq!(
+        Agreement {
+            rate: 5_001,
+            ..Agreement::a()
+        }
+        .refused(),
+        Refusal::BankTerm
+    );
+    assert_eq!(
+        Agreement {
+            cycle: 13,
+            ..Agreement::a()
+        }
+        .refused(),
+        Refusal::BankTerm
+    );
+    assert_eq!(
+        Agreement {
+            cycle: 0,
+            ..Agreement::a()
+        }
+        .refused(),
+        Refusal::BankTerm
+    );
+}
+
+#[test]
+fn refusals_7_to_9_lowest_first() {
+    let agreement = Agreement {
+        pair_list: vec![1, 0, 0, 0],
+        ..Agreement::a()
+    };
+    let mut unit = agreement.opened();
+    assert_eq!(
+        unit.refused_schedule(&[801, 1], &[0, 1]),
+        Refusal::UnlinkedKw
+    );
+    assert_eq!(
+        unit.refused_schedule(&[801, 0], &[0, 1]),
+        Refusal::OverCapacity
+    );
+    assert_eq!(unit.refused_schedule(&[800, 0], &[0, 1]), Refusal::Rank);
+    assert_eq!(unit.refused_schedule(&[800, 0], &[1, 256]), Refusal::Rank);
+    unit.scheduled(&[800, 0], &[1, 255]);
+    let sums_past_32_bits = [u32::MAX, 1];
+    assert_eq!(
+        Unit::a().refused_schedule(&sums_past_32_bits, &[1, 1]),
+        Refusal::OverCapacity
+    );
+}
+
+#[test]
+fn refusals_10_to_13() {
+    let mut unit = Unit::a();
+    assert_eq!(unit.refused_close(), Refusal::MonthEmpty);
+    for _ in 0..MOST_MONTH_BLOCKS {
+        unit.block(&[0], &[200_000_000, 0]);
+    }
+    assert_eq!(
+        unit.refused_block(&[200_000_001], &[0, 0]),
+        Refusal::Reading
+    );
+    assert_eq!(
+        unit.refused_block(&[0], &[0, 200_000_001]),
+        Refusal::Reading
+    );
+    unit.record().unit_blocks.set(MOST_UNIT_BLOCKS);
+    assert_eq!(unit.refused_block(&[0], &[0, 0]), Refusal::MonthFull);
+    unit.close();
+    assert_eq!(unit.refused_block(&[0], &[0, 0]), Refusal::UnitFull);
+    assert_eq!(unit.refused_close(), Refusal::MonthEmpty);
+}

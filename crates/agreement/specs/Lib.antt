@@ -1,0 +1,4 @@
+pub mod Opening
+pub mod Schedule
+pub mod OpeningLaws
+pub mod ScheduleLaws

@@ -1,0 +1,104 @@
+-- Document 01, "Block": rule 8, refusals 10 to 12, and the call. Assumes nothing.
+use Prim.Native.Nat.{ℕ, _+_, _*_}
+use mathlib.Core.Bool.{Bool, _&&_, _||_, not}
+use mathlib.Core.List.{List, [], _∷_}
+use lib.Dec.{eqb, leb, ltb}
+use lib.ListN.{length}
+use Rattle.lists.specs.Choice.{if_then_else_}
+use Rattle.lists.specs.Sums.{sum}
+use Rattle.lists.specs.Tests.{some}
+use Rattle.lists.specs.Pairs.{place}
+use Rattle.lists.specs.Refusals.{firstOf}
+use Rattle.energy.specs.Limits.{mostReading, mostMonthBlocks, mostUnitBlocks}
+use Rattle.delivery.specs.Plan.{Plan, deemed}
+use Rattle.delivery.specs.Delivery.{unaccounted, lossOf}
+use Rattle.settlement.specs.Settlement.{setOff, underdrawn, shortfall, remainder, blockOutput}
+use Rattle.record.specs.Book.{Book}
+use Rattle.record.specs.Called.{Rule, Called}
+use Rattle.record.specs.declared.Record.{Record}
+use Rattle.record.specs.declared.Answer.{Answer}
+use Rattle.record.specs.declared.GeneratorTerms.{GeneratorTerms}
+use Rattle.record.specs.declared.ConsumerTerms.{ConsumerTerms}
+
+-- ---- rule 8, for the entry readings E and the exit readings R
+
+module _ (b : Book) (E R : ℕ → ℕ) where
+  -- Rules 6 and 8: underdrawn energy is pending for a deemed kind, else inadvertent (10.3).
+  unfoldable pub generatorAfterBlock : ℕ → GeneratorTerms
+  generatorAfterBlock g =
+      let p = b .plan in
+      let x = b .gen g in
+      let under = sum (p .C) (λ c. underdrawn p E c (R c) g) in
+      record {
+        injected = x .injected + E g;
+        unaccounted = x .unaccounted + unaccounted p g (E g);
+        lost = x .lost + sum (p .C) (λ c. lossOf p g (E g) c);
+        setoff = x .setoff + sum (p .C) (λ c. setOff p E c (R c) g);
+        inadvertent = x .inadvertent + (if deemed p g then 0 else under);
+        charge = x .charge;
+        drawn = x .drawn;
+        lapsed = x .lapsed;
+        bank = x .bank;
+        pending = x .pending + (if deemed p g then under else 0);
+      }
+
+  unfoldable pub consumerAfterBlock : ℕ → ConsumerTerms
+  consumerAfterBlock c =
+      let p = b .plan in
+      let x = b .con c in
+      record {
+        metered = x .metered + R c;
+        setoff = x .setoff + sum (p .G) (λ g. setOff p E c (R c) g);
+        shortfall = x .shortfall + sum (p .G) (λ g. shortfall p E c (R c) g);
+        drawn = x .drawn;
+        supplied = x .supplied;
+        outstanding = x .outstanding + remainder p E c (R c);
+      }
+
+  unfoldable pub afterBlock : Book
+  afterBlock =
+      record {
+        plan = b .plan;
+        rate = b .rate;
+        cycle = b .cycle;
+        gone = b .gone;
+        blocks = b .blocks + 1;
+        month = b .month + 1;
+        gen = generatorAfterBlock;
+        con = consumerAfterBlock;
+      }
+
+-- ---- the call: one entry reading a generator, one exit reading a consumer, and the length of the output
+
+-- exactly 4GC + G + C numbers
+unfoldable pub blockLength : Plan → ℕ
+blockLength p = 4 * (p .G * p .C) + p .G + p .C
+
+module _ (entry exit : List ℕ) where
+  unfoldable pub entryOf : Book → ℕ → ℕ
+  entryOf b = place (b .plan .G) entry
+
+  unfoldable pub exitOf : Book → ℕ → ℕ
+  exitOf b = place (b .plan .C) exit
+
+  unfoldable pub blockRefusal : ℕ → Book → ℕ
+  blockRefusal size b =
+      let p = b .plan in
+      firstOf
+      ((2, not (eqb (length entry) (p .G) && eqb (length exit) (p .C) && eqb size (blockLength p))) ∷
+      (10, some (p .G) (λ g. ltb mostReading (entryOf b g)) || some (p .C) (λ c. ltb mostReading (exitOf b c))) ∷
+      (11, leb mostMonthBlocks (b .month)) ∷
+      (12, leb mostUnitBlocks (b .blocks)) ∷
+      [])
+
+  unfoldable pub blockRule : ℕ → Rule
+  blockRule size =
+      record {
+        refusal = blockRefusal size;
+        after = λ b. afterBlock b (entryOf b) (exitOf b);
+        output = λ b. blockOutput (b .plan) (entryOf b) (exitOf b);
+      }
+
+-- What block ensures, of its answer and of the slice that it was lent and left.
+abbrev pub Blocked : Record → List ℕ → List ℕ → List ℕ → Answer → List ℕ → Type 0
+Blocked r entry exit lent a out′ = Called (blockRule entry exit (length lent)) r lent (a .number) (a .after) out′

@@ -1,0 +1,4 @@
+pub mod Plan
+pub mod Delivery
+pub mod DeliveryLaws
+pub mod Arrays

@@ -1,0 +1,41 @@
+-- Laws of portions and of the loss. Callers know the loss by these three only: it is at most the whole, and what it leaves never
+-- falls as the energy rises, and rises by at most 1 Wh for each Wh. Assumes nothing.
+use Prim.Native.Nat.{ℕ, _+_, _-_, _*_, _/_, _≤_}
+use mathlib.Core.Path.{_≡_, sym, ap, _∙_}
+use native.Mathlib.Omega.{arith}
+use native.Mathlib.Nat.{mul-le-mul-left, add-mul}
+use Rattle.energy.specs.Energy.{portionUp, lossOn}
+
+pub portion-le : (x rate : ℕ) → rate ≤ 10_000 → portionUp x rate ≤ x
+unfolding portionUp
+portion-le x rate h = omega (arith, mul-le-mul-left x h)
+
+pub portion-zero : (rate : ℕ) → portionUp 0 rate ≡ 0
+unfolding portionUp
+portion-zero rate = omega arith
+
+pub loss-le : (x rate : ℕ) → rate ≤ 10_000 → lossOn x rate ≤ x
+unfolding lossOn
+loss-le x rate h = portion-le x rate h
+
+pub loss-zero : (rate : ℕ) → lossOn 0 rate ≡ 0
+unfolding lossOn
+loss-zero rate = portion-zero rate
+
+module _ (x y rate : ℕ) (h : rate ≤ 10_000) (l : x ≤ y) where
+  product : y * rate ≡ (y - x) * rate + x * rate
+  product =
+      let e : (y - x) + x ≡ y = omega arith in
+      ap (λ (z : ℕ). z * rate) (sym e) ∙ add-mul (y - x) x rate
+
+  pub after-loss-up : x - lossOn x rate ≤ y - lossOn y rate
+  unfolding lossOn portionUp
+  after-loss-up = omega (arith, product, mul-le-mul-left (y - x) h)
+
+  pub after-loss-step : y - lossOn y rate ≤ x - lossOn x rate + (y - x)
+  unfolding lossOn portionUp
+  after-loss-step = omega (arith, product, mul-le-mul-left x h)
+
+  -- from the laws above alone: the loss does not fall as the energy rises
+  pub loss-rises : lossOn x rate ≤ lossOn y rate
+  loss-rises = omega (arith, after-loss-step, loss-le x rate h, loss-le y rate h)

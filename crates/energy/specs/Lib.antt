@@ -1,0 +1,6 @@
+pub mod Limits
+pub mod Energy
+pub mod EnergyLaws
+pub mod Share
+pub mod ShareLaws
+pub mod Requirements

@@ -1,0 +1,7 @@
+pub mod Choice
+pub mod Tables
+pub mod Sums
+pub mod Tests
+pub mod Pairs
+pub mod PairsLaws
+pub mod Refusals

@@ -1,0 +1,7 @@
+pub mod Order
+pub mod Members
+pub mod OrderLaws
+pub mod Settle
+pub mod SettleLaws
+pub mod Arrays
+pub mod Settling

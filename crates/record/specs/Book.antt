@@ -1,0 +1,34 @@
+-- The book: the figures that the record lists. Generators and consumers are counted from 0. Assumes nothing.
+use Prim.Native.Nat.{ℕ, _+_}
+use Rattle.delivery.specs.Plan.{Plan}
+use Rattle.record.specs.declared.GeneratorTerms.{GeneratorTerms}
+use Rattle.record.specs.declared.ConsumerTerms.{ConsumerTerms}
+
+pub record Book : Type 0 where
+  -- the agreement's generators and pairs, and the schedule that stands
+  pub plan : Plan
+  -- the bank's terms: charge rate, and months of a cycle
+  pub rate : ℕ
+  pub cycle : ℕ
+  -- months gone in the cycle; blocks of the unit, and of the month
+  pub gone : ℕ
+  pub blocks : ℕ
+  pub month : ℕ
+  -- the terms of both equations
+  pub gen : ℕ → GeneratorTerms
+  pub con : ℕ → ConsumerTerms
+
+-- Injected is split into these (demand 3).
+abbrev pub splitOfInjected : GeneratorTerms → ℕ
+splitOfInjected x = x .unaccounted + x .lost + x .setoff + x .inadvertent + x .charge + x .drawn + x .lapsed + x .bank + x .pending
+
+-- Metered is split into these (demand 3).
+abbrev pub splitOfMetered : ConsumerTerms → ℕ
+splitOfMetered x = x .setoff + x .shortfall + x .drawn + x .supplied + x .outstanding
+
+-- no energy yet
+unfoldable pub noInjection : GeneratorTerms
+noInjection = record { injected = 0; unaccounted = 0; lost = 0; setoff = 0; inadvertent = 0; charge = 0; drawn = 0; lapsed = 0; bank = 0; pending = 0 }
+
+unfoldable pub noConsumption : ConsumerTerms
+noConsumption = record { metered = 0; setoff = 0; shortfall = 0; drawn = 0; supplied = 0; outstanding = 0 }

@@ -1,0 +1,9 @@
+pub mod Book
+pub mod Stored
+pub mod Words
+pub mod Sound
+pub mod Called
+pub mod SoundLaws
+pub mod StoredLaws
+pub mod CalledLaws
+pub mod WordsLaws

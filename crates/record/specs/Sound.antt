@@ -1,0 +1,50 @@
+-- Document 01, "The record": what a sound record is. Assumes nothing.
+use Prim.Native.Nat.{ℕ, _*_, min}
+use mathlib.Core.Bool.{Bool, _&&_, _||_}
+use lib.Dec.{eqb, leb, ltb}
+use Rattle.lists.specs.Choice.{if_then_else_}
+use Rattle.lists.specs.Tests.{all, within}
+use Rattle.energy.specs.Limits.{mostGenerators, mostConsumers, lastKind, mostCapacity, mostLoss, mostRate, mostCycle, mostRank, mostReading, mostMonthBlocks, mostUnitBlocks}
+use Rattle.delivery.specs.Plan.{Plan, scheduled}
+use Rattle.record.specs.Book.{Book, splitOfInjected, splitOfMetered}
+use Rattle.record.specs.declared.GeneratorTerms.{GeneratorTerms}
+use Rattle.record.specs.declared.ConsumerTerms.{ConsumerTerms}
+
+-- The limit n at a place within the agreement. Places beyond G or C are 0: there each limit is 0.
+abbrev pub limit : Bool → ℕ → ℕ
+limit inside n = if inside then n else 0
+
+-- the ranges of the counts: G, C, bank terms, blocks
+unfoldable pub countsSound : ℕ → ℕ → ℕ → ℕ → ℕ → ℕ → ℕ → Bool
+countsSound G C rate cycle gone blocks month =
+    within 1 mostGenerators G && within 1 mostConsumers C && leb rate mostRate && within 1 mostCycle cycle && ltb gone cycle && leb blocks mostUnitBlocks && leb month mostMonthBlocks && leb month blocks
+
+-- one generator of the agreement, with the sum of its scheduled kW
+unfoldable pub agreedSound : Bool → ℕ → ℕ → ℕ → ℕ → Bool
+agreedSound inside kind installed contracted total =
+    leb kind (limit inside lastKind) && leb installed (limit inside mostCapacity) && leb contracted (limit inside mostCapacity) && leb total (min installed contracted)
+
+-- one pair: an unlinked one has 0 kW
+unfoldable pub pairSound : Bool → ℕ → ℕ → ℕ → ℕ → Bool
+pairSound inside link loss kw rank =
+    leb link (limit inside 1) && leb loss (limit inside mostLoss) && (eqb link 1 || eqb kw 0) && leb (limit inside 1) rank && leb rank (limit inside mostRank)
+
+-- the totals of one generator: injected within its bound, and the generator equation
+unfoldable pub generatorSound : ℕ → Bool → GeneratorTerms → Bool
+generatorSound blocks inside x = leb (x .injected) (limit inside (mostReading * blocks)) && eqb (x .injected) (splitOfInjected x)
+
+-- the totals of one consumer: metered within its bound, and the consumer equation
+unfoldable pub consumerSound : ℕ → Bool → ConsumerTerms → Bool
+consumerSound blocks inside x = leb (x .metered) (limit inside (mostReading * blocks)) && eqb (x .metered) (splitOfMetered x)
+
+module _ (b : Book) where
+  unfoldable pub sound : Bool
+  sound =
+      let p = b .plan in
+      let inG : ℕ → Bool = λ g. ltb g (p .G) in
+      let inC : ℕ → Bool = λ c. ltb c (p .C) in
+      countsSound (p .G) (p .C) (b .rate) (b .cycle) (b .gone) (b .blocks) (b .month) &&
+      (all 8 (λ g. agreedSound (inG g) (p .kind g) (p .installed g) (p .contracted g) (scheduled p g)) &&
+      all 8 (λ g. all 16 (λ c. pairSound (inG g && inC c) (p .link g c) (p .loss g c) (p .kw g c) (p .rank g c))) &&
+      all 8 (λ g. generatorSound (b .blocks) (inG g) (b .gen g)) &&
+      all 16 (λ c. consumerSound (b .blocks) (inC c) (b .con c)))

@@ -1,0 +1,3 @@
+pub mod Settlement
+pub mod SettlementLaws
+pub mod Arrays

@@ -1,0 +1,5 @@
+pub mod Calls
+pub mod Trace
+pub mod Demand3
+pub mod Demand3Proof
+pub mod BenchCases

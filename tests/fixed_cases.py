@@ -1,0 +1,586 @@
+"""The fixed cases of the test program: named lists of calls, the same in every run.
+
+The second engine says what each call gives; these lists only make sure that the calls are met.
+Records that no calls lead to are built by hand and lent with `new_record` or `write`.
+"""
+
+from itertools import combinations
+
+from second.calls import (Call, SecondUnit, block_call, close_call, new_record_call, open_call,
+                          packed, schedule_call, write_call)
+from second.engine import (CONSUMER_PLACES, GENERATOR_PLACES, RECORD_BYTES, RECORD_FORM,
+                           RECORD_WORDS, Engine, record_from_bytes, record_to_bytes)
+from second.paper_cases import CASES, REFUSAL_EXAMPLES, with_counts
+
+KW_LIMIT = 400_000
+LOSS_LIMIT = 5_000
+READING_LIMIT = 200_000_000
+MONTH_LIMIT = 3_360
+UNIT_LIMIT = 10_000_000
+
+
+def after(calls):
+    """The record that the calls leave, to be changed by hand."""
+    unit = SecondUnit(Engine())
+    for call in calls:
+        unit.do(call)
+    return record_from_bytes(unit.record)
+
+
+# ---- Agreements ----
+
+def simple_unit(G, C, kinds=(1,), cycle=2, gone=0, rate=1_000):
+    """Every pair linked, capacities that allow 1,000 kW for each consumer."""
+    generator_list = []
+    for g in range(G):
+        generator_list += (kinds[g % len(kinds)], 1_000 * C + g, 1_000 * C + 3)
+    losses = [(97 * (g + 1) * (c + 2)) % 1_500 for g in range(G) for c in range(C)]
+    return open_call(G, C, rate, cycle, gone, generator_list, [1] * (G * C) + losses)
+
+
+def simple_schedule(G, C):
+    return schedule_call([10 * (g + 1) + c for g in range(G) for c in range(C)],
+                         [1 + (g * 5 + c * 3) % 7 for g in range(G) for c in range(C)])
+
+
+def three_by_two():
+    """Unequal losses, ranks and kinds; one pair unlinked; two months and a lapse, then two more."""
+    kinds = (0, 2, 3)
+    generator_list = (kinds[0], 900, 700, kinds[1], 500, 640, kinds[2], 1_200, 1_200)
+    links = (1, 1, 1, 0, 1, 1)
+    losses = (350, 1_210, 47, 0, 905, 2_500)
+    calls = [open_call(3, 2, 777, 2, 0, generator_list, links + losses),
+             schedule_call((300, 400, 500, 0, 411, 733), (9, 2, 4, 1, 5, 2))]
+    for month in range(4):
+        if month == 2:
+            calls.append(schedule_call((1, 2, 3, 0, 5, 7), (1, 3, 1, 9, 1, 2)))
+        for block in range(6):
+            step = 1 + month * 6 + block
+            calls.append(block_call((30_011 * step, 90_007 * step % 400_003, 53_003 * step),
+                                    (61_001 * step % 390_001, 45_007 * (7 - block))))
+        # A month in which the consumers meter more than is delivered draws on the bank.
+        calls.append(block_call((0, 1, 2), (250_000, 5_000_000 * (month % 2))))
+        calls.append(close_call(3, 2))
+    return calls
+
+
+def order_case(ranks_by_generator, kinds):
+    """One consumer or two; the metered energy rises, so each generator in turn is the last one
+    that is used, in the block and in the closing."""
+    G = len(ranks_by_generator)
+    C = len(ranks_by_generator[0])
+    generator_list = []
+    for g in range(G):
+        generator_list += (kinds[g % len(kinds)], 100, 100)
+    losses = [100 * g + c for g in range(G) for c in range(C)]
+    ranks = [rank for row in ranks_by_generator for rank in row]
+    calls = [open_call(G, C, 100, 1, 0, generator_list, [1] * (G * C) + losses),
+             schedule_call([10 + g for g in range(G) for _ in range(C)], ranks)]
+    entry = [(2_000 + 300 * g) * C for g in range(G)]
+    for step in range(2 * G + 3):
+        exit = [1_500 * step + 7 * c for c in range(C)]
+        # Enough for the whole bank of some generators, not of all.
+        open_now = [1_000 * step + c for c in range(C)]
+        calls += [block_call(entry, exit), block_call([0] * G, open_now), close_call(G, C)]
+    return calls
+
+
+def orders():
+    kinds = (1, 0, 3, 2)
+    yield "five, falling", order_case([[5], [4], [3], [2], [1]], kinds)
+    yield "five, mixed", order_case([[3, 200], [7, 9], [3, 1], [1, 255], [2, 9]], kinds)
+    yield "five deemed, ties", order_case([[2], [1], [2], [1], [1]], (3,))
+    yield "eight, mixed", order_case(
+        [[4, 8, 255], [1, 7, 254], [129, 6, 1], [2, 5, 128], [4, 4, 127], [255, 3, 1], [3, 2, 2],
+         [5, 1, 255]], kinds)
+    yield "eight deemed, equal but for the last", order_case([[9]] * 7 + [[8]], (1, 2, 3))
+    yield "eight of kind 0, ranks of one remainder", order_case(
+        [[253], [5], [249], [9], [17], [13], [1], [257 - 4]], (0,))
+
+
+def cycles():
+    for cycle, gone in ((1, 0), (2, 1), (3, 0), (3, 2), (5, 1), (12, 0), (12, 11)):
+        calls = [simple_unit(2, 2, kinds=(1, 3), cycle=cycle, gone=gone), simple_schedule(2, 2)]
+        for month in range(cycle + 2):
+            calls += [block_call((90_000 + month, 70_001), (1_000, 2_000)),
+                      block_call((0, 0), (500 * month, 20_000)), close_call(2, 2)]
+        yield f"cycle {cycle}, gone {gone}", calls
+
+
+def every_size():
+    for G in range(1, GENERATOR_PLACES + 1):
+        for C in range(1, CONSUMER_PLACES + 1):
+            yield f"size {G} x {C}", [
+                simple_unit(G, C, kinds=(3, 0, 1, 2), gone=1), simple_schedule(G, C),
+                block_call([40_000 + 991 * g for g in range(G)],
+                           [9_000 * (c + 1) for c in range(C)]),
+                block_call([0] * G, [70_000 - 1_000 * c for c in range(C)]),
+                close_call(G, C)]
+
+
+# ---- Limits ----
+
+def limits():
+    top = open_call(1, 1, 5_000, 12, 11, (1, KW_LIMIT, KW_LIMIT), (1, LOSS_LIMIT))
+    yield "all at the limit", [
+        top, schedule_call((KW_LIMIT,), (255,)), block_call((READING_LIMIT,), (READING_LIMIT,)),
+        block_call((READING_LIMIT,), (0,)), close_call(1, 1)]
+    yield "kind 0 at the limit", [
+        open_call(1, 1, 5_000, 1, 0, (0, KW_LIMIT, KW_LIMIT), (1, LOSS_LIMIT)),
+        schedule_call((KW_LIMIT,), (255,)), block_call((READING_LIMIT,), (READING_LIMIT,)),
+        block_call((100_000_000,), (READING_LIMIT,)), block_call((99_999_999,), (READING_LIMIT,)),
+        block_call((1,), (READING_LIMIT,)), close_call(1, 1)]
+    yield "8 x 16 at the limit", [
+        open_call(8, 16, 5_000, 12, 0, (2, KW_LIMIT, KW_LIMIT) * 8, [1] * 128 + [LOSS_LIMIT] * 128),
+        schedule_call([25_000] * 128, [255] * 128),
+        block_call([READING_LIMIT] * 8, [READING_LIMIT] * 16),
+        block_call([READING_LIMIT - g for g in range(8)], [0] * 16), close_call(8, 16)]
+
+    for what, numbers, generator_list, pair_list in (
+            ("kind 4", (0, 1, 0), (4, 0, 0), (1, 0)),
+            ("installed over", (0, 1, 0), (0, KW_LIMIT + 1, 0), (1, 0)),
+            ("contracted over", (0, 1, 0), (0, 0, KW_LIMIT + 1), (1, 0)),
+            ("link 2", (0, 1, 0), (0, 0, 0), (2, 0)),
+            ("loss over", (0, 1, 0), (0, 0, 0), (1, LOSS_LIMIT + 1)),
+            ("loss over on an unlinked pair", (0, 1, 0), (0, 0, 0), (0, LOSS_LIMIT + 1)),
+            ("rate over", (5_001, 1, 0), (0, 0, 0), (1, 0)),
+            ("cycle 0", (0, 0, 0), (0, 0, 0), (1, 0)),
+            ("cycle 13", (0, 13, 0), (0, 0, 0), (1, 0)),
+            ("gone 12 of 12", (0, 12, 12), (0, 0, 0), (1, 0)),
+            ("gone at the top", (0, 12, 2**32 - 1), (0, 0, 0), (1, 0)),
+            ("all numbers at the top", (2**32 - 1,) * 3, (2**32 - 1,) * 3, (2**32 - 1,) * 2)):
+        yield "opening, " + what, [open_call(1, 1, *numbers, generator_list, pair_list),
+                                   close_call(1, 1)]
+    for G, C in ((0, 1), (9, 1), (1, 0), (1, 17), (0, 0), (2**32 - 1, 1), (1, 2**32 - 1),
+                 (2**31, 2**31), (2**16, 2**16), (256 + 1, 1), (1, 256 + 1)):
+        yield f"opening of {G} x {C}", [
+            Call("open", (G, C, 0, 1, 0), (packed((0,) * (3 * min(G, 9))),
+                                           packed((0,) * (2 * min(G, 9) * min(C, 17)))))]
+
+    two = open_call(1, 2, 0, 1, 0, (0, 800, 1_000), (1, 1, 0, 0))
+    installed_lower = [two] + [schedule_call(kw, (1, 255)) for kw in (
+        (800, 0), (0, 800), (799, 2), (801, 0), (400, 400), (400, 401), (1_000, 0), (1_001, 0),
+        (2**32 - 1, 801), (2**32 - 1, 2**32 - 1), (2**31, 2**31))]
+    yield "sum of kW, installed lower", installed_lower + [block_call((5,), (1, 2))]
+    two = open_call(1, 2, 0, 1, 0, (0, 1_000, 800), (1, 1, 0, 0))
+    yield "sum of kW, contracted lower", [two] + installed_lower[1:] + [block_call((5,), (1, 2))]
+    yield "capacity 0", [open_call(1, 1, 0, 1, 0, (1, 0, KW_LIMIT), (1, 0)),
+                         schedule_call((0,), (1,)), schedule_call((1,), (1,)),
+                         block_call((10,), (10,))]
+    unlinked = open_call(2, 2, 0, 1, 0, (1, 100, 100) * 2, (1, 0, 1, 1) + (0,) * 4)
+    yield "ranks", [unlinked] + [schedule_call((5, 0, 5, 5), ranks) for ranks in (
+        (255, 255, 255, 255), (1, 0, 1, 1), (1, 256, 1, 1), (0, 1, 1, 1), (1, 1, 1, 256),
+        (1, 1, 1, 2**32 - 1), (256, 1, 1, 1), (1, 1, 1, 1))]
+    yield "unlinked kW", [unlinked] + [schedule_call(kw, (1,) * 4) for kw in (
+        (5, 1, 5, 5), (5, 0, 5, 5), (0, 2**32 - 1, 0, 0), (0, 100, 0, 0))]
+    for reading in (READING_LIMIT, READING_LIMIT + 1, 2**31, 2**32 - 1):
+        yield f"reading {reading}", [simple_unit(2, 2), simple_schedule(2, 2)] + [
+            block_call(entry, exit) for entry, exit in (
+                ((reading, 0), (0, 0)), ((0, reading), (0, 0)), ((0, 0), (reading, 0)),
+                ((0, 0), (0, reading)))] + [close_call(2, 2)]
+
+
+def full_months():
+    unit = [simple_unit(1, 1), simple_schedule(1, 1)]
+    block = block_call((20_000,), (21_000,))
+    for month, blocks in ((39, 39), (40, 40), (3_359, 3_359), (3_360, 3_360),
+                          (3_359, UNIT_LIMIT - 1), (3_360, UNIT_LIMIT), (1, UNIT_LIMIT - 1),
+                          (1, UNIT_LIMIT), (0, UNIT_LIMIT), (0, UNIT_LIMIT - 1), (0, 5)):
+        yield f"month block {month} of unit block {blocks}", unit + [
+            with_counts(unit, month, blocks), close_call(1, 1), with_counts(unit, month, blocks),
+            block, block, close_call(1, 1), block, close_call(1, 1), simple_schedule(1, 1)]
+    yield "3,361 blocks in one month", unit + [block] * (MONTH_LIMIT + 1) + [
+        close_call(1, 1), block, close_call(1, 1)]
+
+
+# ---- The lowest of several refusals ----
+
+def every_mixture(faults):
+    for count in range(1, len(faults) + 1):
+        yield from combinations(sorted(faults), count)
+
+
+def mixed_refusals():
+    """All mixtures of the faults that a call can have at once."""
+    for mixture in every_mixture((2, 3, 4, 5, 6)):
+        for last in (False, True):  # the fault in the first or in the last place of its list
+            generator_list = [1, 100, 100] * 2
+            pair_list = [1] * 4 + [0] * 4
+            if 3 in mixture:
+                generator_list[3 * last] = 4
+            if 4 in mixture:
+                generator_list[5 if last else 1] = KW_LIMIT + 1
+            if 5 in mixture:
+                pair_list[7 if last else 0] = LOSS_LIMIT + 1
+            call = open_call(2, 2, 5_001 if 6 in mixture else 0, 1, 0, generator_list, pair_list)
+            if 2 in mixture:
+                call = call._replace(record_bytes=RECORD_BYTES + 8 * (1 if last else -1))
+            yield f"opening with faults {mixture}", [simple_unit(1, 1), call, close_call(1, 1)]
+
+    unit = [open_call(2, 2, 0, 1, 0, (1, 100, 100) * 2, (1, 0, 1, 1) + (0,) * 4)]
+    for mixture in every_mixture((1, 2, 7, 8, 9)):
+        kw, ranks = [5, 0, 5, 5], [1, 2, 3, 4]
+        if 7 in mixture:
+            kw[1] = 1
+        if 8 in mixture:
+            kw[2:] = [60, 41]
+        if 9 in mixture:
+            ranks[3] = 256
+        call = schedule_call(kw, ranks)
+        if 2 in mixture:
+            call = call._replace(lists=(call.lists[0], call.lists[1] + b"\0"))
+        spoil = [write_call(RECORD_WORDS - 1, 1)] if 1 in mixture else []
+        yield f"schedule with faults {mixture}", unit + spoil + [call]
+
+    for mixture in every_mixture((1, 2, 10, 11, 12)):
+        record = after(unit)
+        record.month_blocks = MONTH_LIMIT if 11 in mixture else 7
+        record.unit_blocks = UNIT_LIMIT if 12 in mixture else MONTH_LIMIT
+        if 1 in mixture:
+            record.lapsed[1] = 1
+        call = block_call((1, 2), (3, READING_LIMIT + 1 if 10 in mixture else 4))
+        if 2 in mixture:
+            call = call._replace(output_bytes=call.output_bytes - 8)
+        yield f"block with faults {mixture}", [new_record_call(record_to_bytes(record)), call]
+
+    for mixture in every_mixture((1, 2, 13)):
+        record = after(unit)
+        record.unit_blocks = 9
+        record.month_blocks = 0 if 13 in mixture else 9
+        if 1 in mixture:
+            record.gone = record.cycle
+        call = close_call(2, 2)
+        if 2 in mixture:
+            call = call._replace(output_bytes=call.output_bytes + 1)
+        yield f"closing with faults {mixture}", [new_record_call(record_to_bytes(record)), call]
+
+
+# ---- Lengths and null pointers ----
+
+def lengths_around(right):
+    return sorted({0, 1, 3, 4, 7, 8, right // 2, right - 8, right - 4, right - 2, right - 1, right,
+                   right + 1, right + 2, right + 3, right + 4, right + 7, right + 8, 2 * right}
+                  - set(range(-8, 0)))
+
+
+def resized(data, length):
+    """Lengthened by 0 bytes, which are allowed values where the length is not."""
+    return (data + bytes(max(0, length - len(data))))[:length]
+
+
+def lengths():
+    G, C = 2, 3
+    unit = [simple_unit(G, C), simple_schedule(G, C), block_call((50_000, 40_000), (1, 2, 3_000))]
+    for call in (unit[0], unit[1], unit[2], close_call(G, C)):
+        calls = list(unit)
+        for which, data in enumerate(call.lists):
+            for length in lengths_around(len(data)):
+                lists = list(call.lists)
+                lists[which] = resized(data, length)
+                calls.append(call._replace(lists=tuple(lists)))
+            lists = list(call.lists)
+            lists[which] = None
+            calls.append(call._replace(lists=tuple(lists)))
+        if call.output_bytes is not None:
+            calls += [call._replace(output_bytes=length)
+                      for length in lengths_around(call.output_bytes)]
+            calls.append(call._replace(output_bytes=None))
+        calls += [call._replace(record_bytes=length) for length in lengths_around(RECORD_BYTES)]
+        calls.append(call._replace(record_bytes=None))
+        calls.append(call._replace(
+            record_bytes=None, lists=(None,) * len(call.lists),
+            output_bytes=None))
+        calls += [call, unit[2], close_call(G, C)]
+        yield f"lengths of {call.name}", calls
+    yield "lists that are right together only", unit + [
+        block_call((1, 2, 3), (4, 5), size=(G, C)), block_call((1,), (2, 3, 4, 5), size=(G, C)),
+        block_call((1, 2), (3, 4), size=(G, C)),
+        Call("schedule", lists=(packed((1,) * 7), packed((1,) * 5))),
+        Call("schedule", lists=(packed((1,) * 12), b"")),
+        Call("open", (1, 1, 0, 1, 0), (packed((1, 0, 0, 1)), packed((0,)))),
+        Call("open", (2, 1, 0, 1, 0), (packed((1, 0, 0)), packed((1, 0, 0, 1, 1, 0, 0)))),
+        Call("open", (1, 2, 0, 1, 0), (packed((1, 0, 0) * 2), packed((1, 1, 0, 0))))]
+    yield "lengths of another agreement", unit + [
+        simple_unit(3, 2), simple_schedule(2, 2), block_call((1, 2), (3, 4, 5)),
+        close_call(2, 3), simple_schedule(3, 2), block_call((1, 2, 3), (4, 5)), close_call(2, 3),
+        close_call(3, 2)]
+
+
+# ---- Soundness ----
+
+def used_record(G, C):
+    """A record with all terms in use, as calls leave it."""
+    calls = [simple_unit(G, C, kinds=(1, 0, 3, 2), cycle=2), simple_schedule(G, C)]
+    for month in range(3):
+        calls += [block_call([90_000 * (1 + (g + month) % 3) for g in range(G)],
+                             [5_000 + 100 * c for c in range(C)]),
+                  block_call([20 + g for g in range(G)], [9_000 * (1 + c % 2) for c in range(C)])]
+        if month < 2:
+            calls.append(close_call(G, C))
+    return after(calls)
+
+
+def calls_on(G, C):
+    return [close_call(G, C), block_call([1_000] * G, [2_000] * C), simple_schedule(G, C)]
+
+
+def unsound_records():
+    """For each clause of soundness, records that break it and no other."""
+    G, C = 3, 2
+
+    def changed(change):
+        record = used_record(G, C)
+        record.kw[1][1] = 0
+        record.link[1][1] = 0
+        change(record)
+        return [new_record_call(record_to_bytes(record))] + calls_on(
+            min(max(record.generators, 1), 8), min(max(record.consumers, 1), 16))
+
+    def set_to(name, value, *place):
+        def change(record):
+            if not place:
+                setattr(record, name, value)
+                return
+            target = getattr(record, name)
+            for step in place[:-1]:
+                target = target[step]
+            target[place[-1]] = value
+        return change
+
+    def all_of(*changes):
+        def change(record):
+            for single in changes:
+                single(record)
+        return change
+
+    def added(first, second, amount, place):
+        """More energy on both sides of the equation, so that it holds on."""
+        def change(record):
+            getattr(record, first)[place] += amount
+            getattr(record, second)[place] += amount
+        return change
+
+    wrap = 2**63
+    over = 2**32
+    yield "sound", changed(lambda record: None)
+    yield "zeros", [new_record_call(bytes(RECORD_BYTES))] + calls_on(1, 1)
+    yield "G = 0, all else of a new record of 1 x 1", [simple_unit(1, 1), write_call(0, 0)] \
+        + calls_on(1, 1)
+    yield "C = 0, all else of a new record of 1 x 1", [simple_unit(1, 1), write_call(1, 0)] \
+        + calls_on(1, 1)
+    for G_or_C, value in (("generators", 9), ("generators", over + 3), ("generators", 2**64 - 1),
+                          ("consumers", 17), ("consumers", over + 2), ("consumers", wrap),
+                          ("generators", 0), ("consumers", 0)):
+        yield f"{G_or_C} {value}", changed(set_to(G_or_C, value))
+    for what, change in (
+            ("kind 4", set_to("kind", 4, 2)), ("kind 2^32", set_to("kind", over, 0)),
+            ("installed over", set_to("installed", KW_LIMIT + 1, 1)),
+            ("contracted over", set_to("contracted", KW_LIMIT + 1, 0)),
+            ("contracted 2^32 over", set_to("contracted", over + 2_000, 0)),
+            ("link 2", set_to("link", 2, 0, 1)), ("link 2^32 + 1", set_to("link", over + 1, 0, 1)),
+            ("loss over", set_to("loss_rate", LOSS_LIMIT + 1, 2, 1)),
+            ("loss over, unlinked", set_to("loss_rate", LOSS_LIMIT + 1, 1, 1)),
+            ("loss 2^32", set_to("loss_rate", over, 0, 0)),
+            ("rate over", set_to("rate", 5_001)), ("rate 2^32", set_to("rate", over)),
+            ("cycle 0", all_of(set_to("cycle", 0), set_to("gone", 0))),
+            ("cycle 13", set_to("cycle", 13)), ("cycle 2^32 + 1", set_to("cycle", over + 1)),
+            ("gone is the cycle", set_to("gone", 2)), ("gone 2^32", set_to("gone", over)),
+            ("kW on an unlinked pair", set_to("kw", 1, 1, 1)),
+            ("kW over the lower capacity", set_to("kw", 1_990, 0, 0)),
+            ("kW whose sum wraps", all_of(set_to("kw", wrap, 0, 0), set_to("kw", wrap, 0, 1))),
+            ("kW whose low half is small", set_to("kw", over, 2, 0)),
+            ("kW whose low halves' sum wraps",
+             all_of(set_to("kw", over // 2, 2, 0), set_to("kw", over // 2, 2, 1))),
+            ("rank 0", set_to("rank", 0, 0, 1)), ("rank 256", set_to("rank", 256, 2, 0)),
+            ("rank 0, unlinked", set_to("rank", 0, 1, 1)),
+            ("rank 256, unlinked", set_to("rank", 256, 1, 1)),
+            ("rank 2^32 + 1", set_to("rank", over + 1, 0, 0)),
+            ("month over, unit enough",
+             all_of(set_to("month_blocks", MONTH_LIMIT + 1), set_to("unit_blocks", 9_000))),
+            ("month over unit", set_to("month_blocks", 7)),
+            ("month 2^32 + 2", all_of(set_to("month_blocks", over + 2),
+                                      set_to("unit_blocks", UNIT_LIMIT))),
+            ("unit over", set_to("unit_blocks", UNIT_LIMIT + 1)),
+            ("unit 2^32", set_to("unit_blocks", over + 9)),
+            ("set off differs between the sides", added("injected", "set_off", 5, 0)),
+            ("drawn differs between the sides", added("metered", "consumer_drawn", 5, 1)),
+            ("bank without cause", added("injected", "bank", 9, 1)),
+            ("injected 1 Wh, terms as they were", set_to("injected", 1, 0)),
+            ("nothing injected, terms wrap",
+             all_of(*[set_to(term, 0, 0) for term in (
+                 "injected", "loss", "set_off", "inadvertent", "charge", "drawn", "lapsed")],
+                 set_to("pending", 0, 0), set_to("unaccounted", wrap, 0),
+                 set_to("bank", wrap, 0))),
+            ("nothing metered, terms wrap",
+             all_of(*[set_to(term, 0, 0) for term in (
+                 "metered", "consumer_set_off", "consumer_drawn", "supplied")],
+                 set_to("shortfall", wrap, 0), set_to("open", wrap, 0))),
+            ("four terms wrap",
+             all_of(*[set_to(term, 0, 2) for term in (
+                 "injected", "unaccounted", "loss", "inadvertent", "charge", "pending")],
+                 *[set_to(term, 2**62, 2) for term in ("set_off", "drawn", "lapsed", "bank")])),
+            ("limit of age wraps", set_to("unit_blocks", 2**64 // READING_LIMIT + 1))):
+        yield what, changed(change)
+
+    # Injected and metered at the limit of the unit's age, and 1 over it.
+    for name, other, first in (("injected", "lapsed", True), ("metered", "supplied", False)):
+        for more in (0, 1):
+            record = after([simple_unit(G, C), simple_schedule(G, C)])
+            record.unit_blocks, record.month_blocks = 3, 2
+            place = G - 1 if first else C - 1
+            getattr(record, name)[place] = 3 * READING_LIMIT + more
+            getattr(record, other)[place] = 3 * READING_LIMIT + more
+            yield f"{name} {more} over the age", [
+                new_record_call(record_to_bytes(record))] + calls_on(G, C)
+    # The equation holds modulo 2^64 and a wide total keeps to no age.
+    record = after([simple_unit(1, 1), simple_schedule(1, 1)])
+    record.unit_blocks = record.month_blocks = 1
+    record.injected[0], record.bank[0] = 2**64 - 1, 2**64 - 1
+    yield "injected at the top", [new_record_call(record_to_bytes(record))] + calls_on(1, 1)
+
+    # Places beyond G or C.
+    for what, size, places in (
+            ("generator", (2, 2), [(name, 2) for name in ("kind", "installed", "contracted")]),
+            ("total by generator", (2, 2), [("bank", 2), ("injected", 7), ("charge", 5)]),
+            ("total by consumer", (2, 2), [("open", 2), ("metered", 15), ("supplied", 9)]),
+            ("pair by generator", (2, 2), [(name, 2, 0) for name in ("link", "loss_rate", "kw",
+                                                                    "rank")]),
+            ("pair by consumer", (2, 2), [(name, 1, 2) for name in ("link", "loss_rate", "kw",
+                                                                   "rank")]),
+            ("last pair", (8, 15), [(name, 7, 15) for name in ("link", "loss_rate", "kw",
+                                                              "rank")])):
+        for name, *place in places:
+            record = used_record(*size)
+            set_to(name, 1, *place)(record)
+            yield f"{what} beyond, {name}", [new_record_call(record_to_bytes(record))] \
+                + calls_on(*size)
+    # Both equations hold beyond G and C, too, but the places are not 0.
+    record = used_record(2, 2)
+    record.injected[2] = record.bank[2] = 1
+    record.metered[2] = record.open[2] = 1
+    yield "balanced totals beyond", [new_record_call(record_to_bytes(record))] + calls_on(2, 2)
+
+
+def each_word_damaged():
+    """Each word of two sound records in turn: one more, one less, wide and widest."""
+    for size in ((3, 2), (8, 16)):
+        record = record_to_bytes(used_record(*size))
+        words = RECORD_FORM.unpack(record)
+        calls_in_turn = calls_on(*size)
+        for first in range(0, RECORD_WORDS, 100):
+            calls = [new_record_call(record)]
+            for place in range(first, min(first + 100, RECORD_WORDS)):
+                value = words[place]
+                for turn, wrong in enumerate((value + 1, max(value, 1) - 1, value + 2**32,
+                                              value | 2**63, 2**64 - 1)):
+                    call = calls_in_turn[(place + turn) % 3]
+                    if size == (8, 16) and (place + turn) % 2:
+                        continue
+                    calls += [write_call(place, wrong), call]
+                    # An accepted call has changed more than the damaged word.
+                    calls.append(new_record_call(record) if turn < 2 else write_call(place, value))
+            yield f"words from {first} of {size[0]} x {size[1]} damaged", calls
+
+
+def unreached_records():
+    """Sound records that no list of calls leads to."""
+    G, C = 2, 2
+    unit = [simple_unit(G, C, kinds=(0, 2), cycle=2), simple_schedule(G, C)]
+    record = after(unit)
+    record.unit_blocks = record.month_blocks = 4
+    record.bank[0], record.pending[0], record.injected[0] = 70_000, 30_001, 100_001
+    record.inadvertent[1], record.injected[1] = 5, 5
+    record.open[0] = record.metered[0] = 60_000
+    record.open[1] = record.metered[1] = 200_000
+    block = block_call((9_000, 8_000), (7_000, 6_000))
+    yield "kind 0 with bank and pending, deemed with inadvertent", [
+        new_record_call(record_to_bytes(record)), close_call(G, C), block, close_call(G, C), block,
+        close_call(G, C)]
+
+    oldest = READING_LIMIT * UNIT_LIMIT
+    for term in ("unaccounted", "bank", "pending"):
+        for consumer_term in ("supplied", "open"):
+            record = after(unit)
+            record.unit_blocks, record.month_blocks = UNIT_LIMIT, 1
+            record.injected[:G] = [oldest] * G
+            getattr(record, term)[:G] = [oldest] * G
+            record.metered[:C] = [oldest] * C
+            getattr(record, consumer_term)[:C] = [oldest] * C
+            yield f"oldest unit, all in {term} and {consumer_term}", [
+                new_record_call(record_to_bytes(record)), block, close_call(G, C), block,
+                close_call(G, C), simple_schedule(G, C)]
+    record = after(unit)
+    record.unit_blocks, record.month_blocks = UNIT_LIMIT - 1, 1
+    record.injected[:G] = [oldest - READING_LIMIT] * G
+    record.pending[:G] = record.injected[:G]
+    record.metered[:C] = [oldest - READING_LIMIT] * C
+    record.open[:C] = record.metered[:C]
+    full = block_call((READING_LIMIT,) * G, (READING_LIMIT,) * C)
+    for rate in (0, 1, 9_999 // 2, 5_000):
+        record.rate = rate
+        yield f"last block of the oldest unit, rate {rate}", [
+            new_record_call(record_to_bytes(record)), full, full, close_call(G, C), full]
+
+    # A link may be cut under a bank, and a schedule stand that no opening gives.
+    record = used_record(3, 2)
+    record.link[0][1] = record.kw[0][1] = 0
+    record.link[2][0] = record.kw[2][0] = 0
+    record.gone, record.cycle = 11, 12
+    yield "links cut under a bank", [new_record_call(record_to_bytes(record)), close_call(3, 2),
+                                     block_call((1_000,) * 3, (2_000,) * 2), close_call(3, 2)]
+
+
+def smaller_things():
+    yield "schedule after schedule", [
+        simple_unit(2, 2), simple_schedule(2, 2), schedule_call((0, 0, 0, 9), (1, 2, 3, 4)),
+        block_call((8_000, 7_000), (3_000, 9_000)), schedule_call((9, 9, 0, 0), (4, 3, 2, 1)),
+        block_call((8_000, 7_000), (3_000, 9_000)), close_call(2, 2)]
+    yield "schedule changed before the closing", [
+        simple_unit(2, 1, kinds=(1, 3)), schedule_call((10, 10), (1, 2)),
+        block_call((9_000, 9_000), (0,)), block_call((0, 0), (9_500,)),
+        schedule_call((0, 0), (2, 1)), close_call(2, 1)]
+    yield "no schedule", [simple_unit(2, 2), block_call((5, 6), (7, 8)), close_call(2, 2)]
+    yield "opening over a unit in use", [
+        simple_unit(2, 2), simple_schedule(2, 2), block_call((5_000, 6_000), (7, 8)),
+        open_call(2, 2, 0, 2, 2, (0, 0, 0) * 2, (0,) * 8), simple_unit(1, 3), close_call(1, 3),
+        block_call((5,), (1, 2, 3)), close_call(1, 3)]
+    yield "opening over damaged bytes", [
+        new_record_call(b"\xff" * RECORD_BYTES), simple_unit(2, 2), block_call((1, 2), (3, 4))]
+    # Parts by running sums: each part by itself would lose a watt-hour.
+    for kind in (0, 1, 2, 3):
+        calls = [open_call(1, 3, 333, 2, 0, (kind, 100, 100), (1,) * 3 + (0, 1, 4_999)),
+                 schedule_call((1, 1, 1), (1,) * 3)]
+        calls += [block_call((entry,), (entry // 3,) * 3) for entry in
+                  (0, 1, 2, 3, 4, 5, 100, 250, 749, 750, 751, 10_000)]
+        yield f"small energies of kind {kind}", calls + [close_call(1, 3)]
+    # Two of kind 0, both short: what the second delivers comes before the first one's shortfall.
+    yield "shortfall after all set-off", [
+        open_call(2, 1, 0, 1, 0, (0, 40, 40) * 2, (1, 1, 0, 0)), schedule_call((40, 40), (1, 2)),
+        block_call((6_000, 9_000), (15_500,)), block_call((6_000, 9_000), (16_500,)),
+        block_call((6_000, 9_000), (12_000,)), block_call((6_000, 9_000), (30_000,)),
+        close_call(2, 1)]
+    yield "two consumers after one bank", [
+        open_call(2, 2, 0, 3, 0, (1, 40, 40, 3, 40, 40), (1, 1, 0, 1) + (0,) * 4),
+        schedule_call((20, 20, 0, 40), (2, 2, 1, 1)), block_call((8_000, 3_000), (0, 0)),
+        block_call((0, 0), (5_000, 7_000)), close_call(2, 2),
+        block_call((8_000, 3_000), (0, 0)), block_call((0, 0), (1_000, 7_000)), close_call(2, 2)]
+
+
+def fixed_cases():
+    """All fixed cases: (name, list of calls)."""
+    for name, calls in CASES.items():
+        yield name, calls
+    for number, calls in REFUSAL_EXAMPLES.items():
+        yield f"example of refusal {number}", calls
+    yield "3 x 2 over four months", three_by_two()
+    yield from orders()
+    yield from cycles()
+    yield from every_size()
+    yield from limits()
+    yield from mixed_refusals()
+    yield from lengths()
+    yield from unsound_records()
+    yield from unreached_records()
+    yield from smaller_things()
+    yield from full_months()
+    yield from each_word_damaged()

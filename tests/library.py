@@ -1,0 +1,164 @@
+"""The library under test: the four C calls over guarded memory, and the run of a list of calls on
+the library and the second engine side by side."""
+
+import ctypes
+import mmap
+
+from second.calls import (INPUT_NAMES, PATTERN, Outcome, SecondUnit, lent_record, written)
+from second.engine import (CONSUMER_PLACES, CONSUMER_TERMS, GENERATOR_PLACES, GENERATOR_TERMS,
+                           PAIR_LISTS, RECORD_BYTES, Engine)
+
+GUARD = bytes((0x5B + 29 * k) % 256 for k in range(64))
+MOST_LENT = 64 * 1024  # a multiple of every usual page size
+NO_ACCESS = 0
+
+
+class Lent:
+    """Memory lent to the library. Guard bytes stand before it; after it stand guard bytes or,
+    if it is lent at the end, a page that faults when read or written."""
+
+    def __init__(self):
+        self.memory = mmap.mmap(-1, MOST_LENT + mmap.PAGESIZE)
+        self.address = ctypes.addressof(ctypes.c_char.from_buffer(self.memory))
+        protect = ctypes.CDLL(None, use_errno=True).mprotect
+        protect.argtypes = (ctypes.c_void_p, ctypes.c_size_t, ctypes.c_int)
+        if protect(self.address + MOST_LENT, mmap.PAGESIZE, NO_ACCESS) != 0:
+            raise OSError(ctypes.get_errno(), "mprotect")
+        self.view = memoryview(self.memory)
+        self.start = self.end = 0
+
+    def lend(self, data, shift):
+        """Gives the address. A shift moves the start, since bytes may be lent at any address;
+        without one the memory is lent at the end. None is lent as a null pointer."""
+        length = len(data or b"")
+        self.start = MOST_LENT - length if shift is None else len(GUARD) + shift
+        self.end = self.start + length
+        self.view[self.start - len(GUARD):self.start] = GUARD
+        self.view[self.start:self.end] = data or b""
+        if self.end < MOST_LENT:
+            self.view[self.end:self.end + len(GUARD)] = GUARD
+        return None if data is None else self.address + self.start
+
+    def now(self):
+        return bytes(self.view[self.start:self.end])
+
+    def guards_whole(self):
+        before = self.view[self.start - len(GUARD):self.start]
+        after = self.view[self.end:self.end + len(GUARD)]
+        return before == GUARD and (self.end == MOST_LENT or after == GUARD)
+
+
+class Library:
+    """The four C calls of a shared object, and the memory that is lent to them."""
+
+    def __init__(self, path):
+        loaded = ctypes.CDLL(path)
+        a_list = (ctypes.c_void_p, ctypes.c_size_t)
+        self.calls = {}
+        for name, numbers, lists in (("open", 5, 3), ("schedule", 0, 3), ("block", 0, 4),
+                                     ("close", 0, 2)):
+            function = getattr(loaded, "wheeling_" + name)
+            function.argtypes = (ctypes.c_uint32,) * numbers + a_list * lists
+            function.restype = ctypes.c_uint32
+            self.calls[name] = function
+        self.lent = {name: Lent() for name in ("record", "output", "first list", "second list")}
+
+
+class LibraryUnit:
+    """A unit kept by the library."""
+
+    def __init__(self, library, turn):
+        self.library = library
+        self.record = PATTERN[:RECORD_BYTES]
+        self.lent = library.lent
+        self.turn = turn
+
+    def do(self, call):
+        """Gives the outcome and what the library touched that it must not touch."""
+        if call.name in ("write", "new_record"):
+            self.record = written(call, self.record)
+            return Outcome(None, self.record, b""), []
+        # In turn at the end of the memory and at each remainder of an address by 8.
+        self.turn += 1
+        shift = self.turn // 2 % 8 if self.turn % 2 else None
+        record = None if call.record_bytes is None else lent_record(call, self.record)
+        record_argument = (self.lent["record"].lend(record, shift), len(record or b""))
+        lists = []
+        for name, data in zip(("first list", "second list"), call.lists):
+            lists += (self.lent[name].lend(data, shift), len(data or b""))
+        used = ["record", "first list", "second list"][:1 + len(call.lists)]
+        function = self.library.calls[call.name]
+        output = b""
+        if call.name == "open":
+            number = function(*call.numbers, *lists, *record_argument)
+        elif call.name == "schedule":
+            number = function(*record_argument, *lists)
+        else:
+            used.append("output")
+            data = None if call.output_bytes is None else PATTERN[:call.output_bytes]
+            output_argument = (self.lent["output"].lend(data, shift), len(data or b""))
+            number = function(*record_argument, *lists, *output_argument)
+            output = self.lent["output"].now()
+
+        touched = [f"bytes around the {name} were written" for name in used
+                   if not self.lent[name].guards_whole()]
+        for name, data, shown in zip(("first list", "second list"), call.lists,
+                                     INPUT_NAMES[call.name]):
+            if self.lent[name].now() != (data or b""):
+                touched.append(f"the input {shown} was written")
+        record = self.lent["record"].now()
+        if len(record) == RECORD_BYTES:
+            self.record = record
+        return Outcome(number, record, output), touched
+
+
+def word_names():
+    """The name of each word of the record, generators and consumers counted from 1."""
+    names = ["G", "C", "rate", "cycle", "months gone", "unit blocks", "month blocks"]
+    for g in range(1, GENERATOR_PLACES + 1):
+        names += [f"{name} of generator {g}" for name in ("kind", "installed", "contracted")]
+    for name in PAIR_LISTS:
+        names += [f"{name} of pair ({g}, {c})" for g in range(1, GENERATOR_PLACES + 1)
+                  for c in range(1, CONSUMER_PLACES + 1)]
+    for name in GENERATOR_TERMS:
+        names += [f"{name} of generator {g}" for g in range(1, GENERATOR_PLACES + 1)]
+    for name in CONSUMER_TERMS:
+        names += [f"{name} of consumer {c}" for c in range(1, CONSUMER_PLACES + 1)]
+    return names
+
+
+def differing_words(what, names, library, second):
+    for at in range(0, max(len(library), len(second)), 8):
+        left, right = library[at:at + 8], second[at:at + 8]
+        if left != right:
+            name = names[at // 8] if at // 8 < len(names) else f"word {at // 8}"
+            yield (f"{what}, {name}: library {int.from_bytes(left, 'little')}, "
+                   f"second engine {int.from_bytes(right, 'little')}")
+
+
+def differences(library, second):
+    """What differs between two outcomes, in words."""
+    found = []
+    if library.number != second.number:
+        found.append(f"number: library {library.number}, second engine {second.number}")
+    if library.record != second.record:
+        found += differing_words("record", word_names(), library.record, second.record)
+    if library.output != second.output:
+        found += differing_words("output", [], library.output, second.output)
+    return found
+
+
+class Pair:
+    """The library's unit and the second engine's unit, fed the same calls."""
+
+    def __init__(self, library, turn=0):
+        self.library = LibraryUnit(library, turn)
+        self.second = SecondUnit(Engine())
+
+    def do(self, call):
+        """Gives the second engine's outcome and all that differs."""
+        theirs, found = self.library.do(call)
+        ours = self.second.do(call)
+        if theirs != ours:
+            found = found + differences(theirs, ours)
+        return ours, found

@@ -1,0 +1,384 @@
+#!/usr/bin/env python3
+"""Shows that the test program's cases tell wrong rules from right ones.
+
+Each wrong rule is put into the second engine in the place of one right rule. The wrong engine and
+the right one are fed the fixed cases and random lists of compare.py; a difference must show. For
+each wrong rule, the calls made up to the first difference are printed, once for the fixed cases and
+once for the random lists. Ends with 1 if a wrong rule survives both.
+"""
+
+import argparse
+import struct
+import sys
+import time
+
+from fixed_cases import fixed_cases
+from random_calls import calls_of
+from second.calls import SecondUnit
+from second.engine import (CONSUMER_TERMS, GENERATOR_TERMS, MINI_HYDEL, WH_PER_KW_IN_A_BLOCK,
+                           WHOLE, WIND, Engine, rounded_up, taken_in_order)
+
+WRONG_RULES = {}
+
+
+def wrong(what):
+    """Names the wrong rule that the class holds."""
+    def enter(engine):
+        WRONG_RULES[what] = engine
+        return engine
+    return enter
+
+
+# ---- Kinds ----
+
+@wrong("only kind 1 deemed")
+class OnlyWindDeemed(Engine):
+    def deemed(self, kind):
+        return kind == WIND
+
+
+@wrong("kind 2 not deemed")
+class MiniHydelNotDeemed(Engine):
+    def deemed(self, kind):
+        return super().deemed(kind) and kind != MINI_HYDEL
+
+
+@wrong("kind 0 banked")
+class ScheduledBanked(Engine):
+    def keep_underdrawn(self, record, g, underdrawn):
+        record.pending[g] += underdrawn
+
+
+# ---- Orders ----
+
+@wrong("drawing by generator number")
+class DrawingByNumber(Engine):
+    def drawing_order(self, record, c):
+        return [g for g in range(record.generators) if record.link[g][c] == 1]
+
+
+@wrong("drawing from unlinked generators too")
+class DrawingUnlinked(Engine):
+    def drawing_order(self, record, c):
+        return self.inter_se_order(record, c)
+
+
+@wrong("consumers drawing last to first")
+class LastConsumerDrawsFirst(Engine):
+    def drawing_consumers(self, record):
+        return reversed(range(record.consumers))
+
+
+@wrong("shortfall reversed")
+class ShortfallReversed(Engine):
+    def shortfall(self, order, delivered, scheduled, left):
+        return super().shortfall(order[::-1], delivered, scheduled, left)
+
+
+@wrong("shortfall interleaved with set-off")
+class ShortfallInterleaved(Engine):
+    def settle_consumer(self, order, delivered, scheduled, reading):
+        set_off, shortfall = [0] * len(delivered), [0] * len(delivered)
+        left = reading
+        for g in order:
+            set_off[g] = min(delivered[g], left)
+            left -= set_off[g]
+            shortfall[g] = min(scheduled[g] - delivered[g], left)
+            left -= shortfall[g]
+        return set_off, shortfall, left
+
+
+@wrong("set-off by generator number")
+class SetOffByNumber(Engine):
+    def set_off(self, order, delivered, left):
+        return taken_in_order(range(len(delivered)), delivered, left)
+
+
+@wrong("ranks taken modulo 4")
+class RanksModulo4(Engine):
+    def inter_se_order(self, record, c):
+        return sorted(range(record.generators), key=lambda g: (record.rank[g][c] % 4, g))
+
+
+@wrong("ranks taken modulo 128")
+class RanksModulo128(Engine):
+    def inter_se_order(self, record, c):
+        return sorted(range(record.generators), key=lambda g: (record.rank[g][c] % 128, g))
+
+
+@wrong("generators from the fifth on unordered")
+class FifthUnordered(Engine):
+    def inter_se_order(self, record, c):
+        first = min(4, record.generators)
+        ordered = sorted(range(first), key=lambda g: (record.rank[g][c], g))
+        return ordered + list(range(first, record.generators))
+
+
+@wrong("equal ranks by higher generator number")
+class TiesReversed(Engine):
+    def inter_se_order(self, record, c):
+        return sorted(range(record.generators), key=lambda g: (record.rank[g][c], -g))
+
+
+# ---- Schedule ----
+
+@wrong("schedule testing the contracted capacity only")
+class ContractedOnly(Engine):
+    def lower_capacity(self, record, g):
+        return record.contracted[g]
+
+
+@wrong("schedule testing the installed capacity only")
+class InstalledOnly(Engine):
+    def lower_capacity(self, record, g):
+        return record.installed[g]
+
+
+@wrong("schedule testing the higher capacity")
+class HigherCapacity(Engine):
+    def lower_capacity(self, record, g):
+        return max(record.installed[g], record.contracted[g])
+
+
+# ---- Pair lists ----
+
+@wrong("pair lists transposed in the inputs")
+class InputsTransposed(Engine):
+    def pair_rows(self, pair_list, generators, consumers):
+        return [list(pair_list[g::generators]) for g in range(generators)]
+
+
+@wrong("pair list transposed in the closing's output")
+class ClosingTransposed(Engine):
+    def closing_output(self, drawn, *lists):
+        return super().closing_output([list(column) for column in zip(*drawn)], *lists)
+
+
+@wrong("pair lists transposed in the block's output")
+class OutputTransposed(Engine):
+    def block_output(self, loss, set_off, underdrawn, shortfall, unaccounted, remainder):
+        turned = [[list(column) for column in zip(*rows)]
+                  for rows in (loss, set_off, underdrawn, shortfall)]
+        return super().block_output(*turned, unaccounted, remainder)
+
+
+# ---- Block ----
+
+@wrong("losses of later generators wrong")
+class FirstGeneratorsLosses(Engine):
+    def pair_loss_rate(self, record, g, c):
+        return record.loss_rate[0][c]
+
+
+@wrong("losses of later consumers wrong")
+class FirstConsumersLosses(Engine):
+    def pair_loss_rate(self, record, g, c):
+        return record.loss_rate[g][0]
+
+
+@wrong("loss rounded down")
+class LossRoundedDown(Engine):
+    def loss(self, part, rate):
+        return part * rate // WHOLE
+
+
+@wrong("each part rounded by itself")
+class PartsByThemselves(Engine):
+    def parts(self, counted, kw):
+        return [counted * own // sum(kw) if own else 0 for own in kw]
+
+
+@wrong("kind 0 counted without its schedule")
+class CountedWithoutSchedule(Engine):
+    def counted(self, kind, entry, total_kw):
+        return entry if total_kw else 0
+
+
+@wrong("scheduled at exit without loss")
+class ScheduledWithoutLoss(Engine):
+    def scheduled_at_exit(self, kind, kw, delivered, rate):
+        return delivered if self.deemed(kind) else WH_PER_KW_IN_A_BLOCK * kw
+
+
+@wrong("only the first block settled")
+class FirstBlockOnly(Engine):
+    def block_rules(self, record, entry, exit):
+        if record.unit_blocks:
+            entry, exit = [0] * len(entry), [0] * len(exit)
+        return super().block_rules(record, entry, exit)
+
+
+@wrong("month full at 40")
+class MonthFullAt40(Engine):
+    def month_full(self, record):
+        return record.month_blocks >= 40
+
+
+@wrong("month full one block late")
+class MonthFullLate(Engine):
+    def month_full(self, record):
+        return record.month_blocks > self.MONTH_LIMIT
+
+
+@wrong("unit full one block early")
+class UnitFullEarly(Engine):
+    def unit_full(self, record):
+        return record.unit_blocks >= self.UNIT_LIMIT - 1
+
+
+@wrong("reading limit 199,999,999")
+class ReadingLimitLow(Engine):
+    def readings_allowed(self, readings):
+        return max(readings) <= self.HIGHEST_READING - 1
+
+
+# ---- Opening and closing ----
+
+@wrong("months gone forgotten at opening")
+class MonthsGoneForgotten(Engine):
+    def new_record(self, generators, consumers, rate, cycle, gone, generator_list, pair_list):
+        # A wrong number of months is still refused; a right one is not kept.
+        kept = 0 if gone < cycle else gone
+        return super().new_record(generators, consumers, rate, cycle, kept, generator_list,
+                                  pair_list)
+
+
+@wrong("cycles of 3 or more lapsing monthly")
+class LongCyclesLapseMonthly(Engine):
+    def bank_lapses(self, record):
+        return record.cycle >= 3 or super().bank_lapses(record)
+
+
+@wrong("old balance charged again")
+class OldBalanceCharged(Engine):
+    def charge(self, record, g):
+        again = rounded_up(record.bank[g], record.rate)
+        return min(super().charge(record, g) + again, record.pending[g])
+
+
+# ---- Weak readings of sound ----
+
+@wrong("weak sound: totals beyond G or C not looked at")
+class TotalsBeyondAllowed(Engine):
+    def totals_beyond_are_zero(self, record):
+        return True
+
+
+@wrong("weak sound: sums taken modulo 2^64")
+class SumsModulo(Engine):
+    def equation_modulo(self, record, terms):
+        first, *others = (getattr(record, term) for term in terms)
+        return first == [sum(amounts) % 2**64 for amounts in zip(*others)]
+
+    def generator_equation_holds(self, record):
+        return self.equation_modulo(record, GENERATOR_TERMS)
+
+    def consumer_equation_holds(self, record):
+        return self.equation_modulo(record, CONSUMER_TERMS)
+
+
+@wrong("weak sound: ranks of unlinked pairs not looked at")
+class UnlinkedRanksAllowed(Engine):
+    # A schedule still tests all ranks.
+    CLAUSES_OF_SOUND = tuple("linked_ranks_allowed" if clause == "ranks_allowed" else clause
+                             for clause in Engine.CLAUSES_OF_SOUND)
+
+    def linked_ranks_allowed(self, record):
+        G, C = record.generators, record.consumers
+        return all(1 <= record.rank[g][c] <= self.HIGHEST_RANK
+                   for g in range(G) for c in range(C) if record.link[g][c])
+
+
+@wrong("strong sound: a kind 0 generator may hold no bank")
+class ScheduledWithoutBank(Engine):
+    def sound(self, record):
+        return super().sound(record) and not any(
+            record.bank[g] + record.pending[g] for g in range(record.generators)
+            if record.kind[g] == 0)
+
+
+@wrong("strong sound: set off the same over both sides")
+class SetOffAcross(Engine):
+    def sound(self, record):
+        return super().sound(record) and sum(record.set_off) == sum(record.consumer_set_off)
+
+
+def without_clause(clause):
+    return type("Without_" + clause, (Engine,), {
+        "CLAUSES_OF_SOUND": tuple(name for name in Engine.CLAUSES_OF_SOUND if name != clause)})
+
+
+for name_of_clause in Engine.CLAUSES_OF_SOUND:
+    WRONG_RULES["sound without " + name_of_clause] = without_clause(name_of_clause)
+
+
+# ---- The comparison ----
+
+def recorded(calls):
+    """The calls of a list with the right engine's outcomes."""
+    unit, made, outcome = SecondUnit(Engine()), [], None
+    while True:
+        try:
+            call = calls.send(outcome)
+        except StopIteration:
+            return made
+        outcome = unit.do(call)
+        made.append((call, outcome))
+
+
+def fixed_list(calls):
+    for call in calls:
+        yield call
+
+
+def calls_until_difference(engine, lists):
+    """Calls made until the wrong engine differs, or None. A fault in it is a difference too."""
+    count = 0
+    for made in lists:
+        unit = SecondUnit(engine)
+        for call, right in made:
+            count += right.number is not None
+            try:
+                outcome = unit.do(call)
+            except (ArithmeticError, LookupError, ValueError, struct.error):
+                return count
+            if outcome != right:
+                return count
+    return None
+
+
+def main():
+    parser = argparse.ArgumentParser(description=__doc__.splitlines()[0])
+    parser.add_argument("--lists", type=int, default=300)
+    parser.add_argument("--months", type=int, default=10)
+    parser.add_argument("--seed", type=int, default=1)
+    arguments = parser.parse_args()
+    begun = time.monotonic()
+    fixed = [recorded(fixed_list(calls)) for _, calls in fixed_cases()]
+    drawn_by_lot = [recorded(calls_of(arguments.seed, kind, index))
+                    for kind, count in (("list", arguments.lists), ("month", arguments.months))
+                    for index in range(count)]
+
+    # The right engine must not differ from itself: otherwise no count below would mean anything.
+    for lists in (fixed, drawn_by_lot):
+        if calls_until_difference(Engine(), lists) is not None:
+            print("the right engine differs from itself")
+            return 1
+
+    print("calls until a difference: fixed cases, random lists")
+    survivors = []
+    for what, engine in WRONG_RULES.items():
+        counts = [calls_until_difference(engine(), lists) for lists in (fixed, drawn_by_lot)]
+        print(f"{'-' if counts[0] is None else counts[0]:>7}"
+              f"{'-' if counts[1] is None else counts[1]:>8}  {what}")
+        if counts == [None, None]:
+            survivors.append(what)
+    print(f"{len(WRONG_RULES)} wrong rules, {len(survivors)} survive, "
+          f"{time.monotonic() - begun:.1f} s")
+    for what in survivors:
+        print("SURVIVES: " + what)
+    return 1 if survivors else 0
+
+
+if __name__ == "__main__":
+    sys.exit(main())
