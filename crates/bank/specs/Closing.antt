@@ -1,5 +1,5 @@
 -- Document 01, "Closing a month": steps 1 to 4, refusal 13, and the call. Assumes nothing.
-use Prim.Native.Nat.{ℕ, zero, suc, _+_, _-_, _*_}
+use Prim.Native.Nat.{ℕ, _+_, _-_, _*_}
 use mathlib.Core.Bool.{Bool, not}
 use mathlib.Core.List.{List, [], _∷_}
 use lib.Dec.{eqb}
@@ -10,14 +10,14 @@ use Rattle.lists.specs.Tables.{table}
 use Rattle.lists.specs.Pairs.{pairs, joined}
 use Rattle.lists.specs.Refusals.{firstOf}
 use Rattle.energy.specs.Energy.{portionUp}
-use Rattle.order.specs.Settle.{given, kept, unmet}
-use Rattle.delivery.specs.Plan.{Plan, suppliers}
+use Rattle.delivery.specs.Plan.{Plan}
 use Rattle.record.specs.Book.{Book}
 use Rattle.record.specs.Called.{Rule, Called}
 use Rattle.record.specs.declared.Record.{Record}
 use Rattle.record.specs.declared.Answer.{Answer}
 use Rattle.record.specs.declared.GeneratorTerms.{GeneratorTerms}
 use Rattle.record.specs.declared.ConsumerTerms.{ConsumerTerms}
+use Rattle.bank.specs.Drawing.{stockAt, drawnAt, missingAt}
 
 module _ (b : Book) where
   -- Step 1: the month's pending is taken up, less a charge on it; what the bank held before is not charged again.
@@ -30,17 +30,16 @@ module _ (b : Book) where
   unfoldable pub credited : ℕ → ℕ
   credited g = b .gen g .bank + (takenUp g - charge g)
 
-  -- Step 2: the banks when the turn comes to consumer c. Its linked generators give in the inter-se order that stands now.
+  -- Step 2: the banks when the turn comes to consumer c, and what it draws.
   unfoldable pub banks : ℕ → ℕ → ℕ
-  banks zero = credited
-  banks (suc c) = kept (suppliers (b .plan) c) (banks c) (b .con c .outstanding)
+  banks = stockAt (b .plan) credited (λ c. b .con c .outstanding)
 
   unfoldable pub drawn : ℕ → ℕ → ℕ
-  drawn g c = given (suppliers (b .plan) c) (banks c) (b .con c .outstanding) g
+  drawn = drawnAt (b .plan) credited (λ c. b .con c .outstanding)
 
   -- Step 3: supplied by the local licensee.
   unfoldable pub supplied : ℕ → ℕ
-  supplied c = unmet (suppliers (b .plan) c) (banks c) (b .con c .outstanding)
+  supplied = missingAt (b .plan) credited (λ c. b .con c .outstanding)
 
   -- Step 4: at the end of the cycle every bank lapses.
   unfoldable pub lapses : Bool

@@ -10,6 +10,7 @@ use borrow.Author.Tests.{eq-eqb, eqb-true, eqb-false}
 use lib.Dec.{eqb, ltb}
 use Rattle.lists.specs.Choice.{if_then_else_}
 use Rattle.lists.specs.Sums.{sum, sum-cong, sum-falls, sum-both-ways, never-rises}
+use Rattle.lists.specs.Refusals.{firstOf}
 use Rattle.energy.specs.Energy.{portionUp}
 use Rattle.energy.specs.EnergyLaws.{portion-le}
 use Rattle.order.specs.Members.{In, order-in, only-in}
@@ -22,7 +23,8 @@ use Rattle.record.specs.Book.{Book}
 use Rattle.record.specs.Called.{Rule}
 use Rattle.record.specs.CalledLaws.{Keeps}
 use Rattle.record.specs.SoundLaws.{Facts, CountsFacts, GeneratorFacts, ConsumerFacts}
-use Rattle.bank.specs.Closing.{takenUp, charge, credited, banks, drawn, supplied, lapses, goneAfter, bankBeforeLapse, lapsed, bankAfter, generatorAfterClosing, consumerAfterClosing, afterClosing, closingRefusal, closingRule}
+use Rattle.bank.specs.Drawing.{stockAt, drawnAt, missingAt}
+use Rattle.bank.specs.Closing.{takenUp, charge, credited, banks, drawn, supplied, lapses, goneAfter, bankBeforeLapse, lapsed, bankAfter, generatorAfterClosing, consumerAfterClosing, afterClosing, closingLength, closingRefusal, closingRule}
 
 module _ (b : Book) where
   -- pending - charge is exact
@@ -32,18 +34,18 @@ module _ (b : Book) where
 
   -- what is drawn is taken from the bank, exactly
   pub drawn-le : (g c : ℕ) → drawn b g c ≤ banks b c g
-  unfolding drawn
+  unfolding drawn drawnAt banks
   drawn-le g c = given-le (suppliers (b .plan) c) (banks b c) (b .con c .outstanding) g
 
   pub banks-next : (g c : ℕ) → banks b (suc c) g ≡ banks b c g - drawn b g c
-  unfolding banks drawn
+  unfolding banks drawn stockAt drawnAt
   banks-next g c = kept-is (suppliers (b .plan) c) (banks b c) (b .con c .outstanding) g
 
   banks-fall : (g c : ℕ) → banks b (suc c) g ≤ banks b c g
   banks-fall g c = omega (arith, banks-next g c)
 
   pub banks-first : (g : ℕ) → banks b 0 g ≡ credited b g
-  unfolding banks
+  unfolding banks stockAt
   banks-first g = refl
 
   all-drawn : (g : ℕ) → sum (b .plan .C) (drawn b g) + bankBeforeLapse b g ≡ credited b g
@@ -72,7 +74,7 @@ module _ (b : Book) where
 
   -- what a consumer had open is drawn and supplied
   pub consumer-split : (c : ℕ) → sum (b .plan .G) (λ g. drawn b g c) + supplied b c ≡ b .con c .outstanding
-  unfolding drawn supplied
+  unfolding drawn supplied drawnAt missingAt banks
   consumer-split c = given-sum (b .plan .G) (suppliers (b .plan) c) (banks b c) (b .con c .outstanding) (suppliers-within (b .plan) c)
 
   supplier-in : (g c : ℕ) → g < b .plan .G → b .plan .link g c ≡ 1 → In g (suppliers (b .plan) c)
@@ -80,7 +82,7 @@ module _ (b : Book) where
   supplier-in g c h l = only-in (λ g. eqb (b .plan .link g c) 1) g (order (b .plan) c) (eq-eqb _ 1 l) (order-in (λ g. b .plan .rank g c) (b .plan .G) g h)
 
   used-up : (g c : ℕ) → In g (suppliers (b .plan) c) → 0 < supplied b c → drawn b g c ≡ banks b c g
-  unfolding drawn supplied
+  unfolding drawn supplied drawnAt missingAt banks
   used-up g c m h = given-all (suppliers (b .plan) c) (banks b c) (b .con c .outstanding) g m h
 
   -- no linked pair's generator still has bank before the lapse while its consumer has energy supplied
@@ -96,7 +98,7 @@ module _ (b : Book) where
   pub earlier-drawn :
       (g h c : ℕ) → g < b .plan .G → h < b .plan .G → b .plan .link g c ≡ 1 → b .plan .link h c ≡ 1 → Ahead (λ k. b .plan .rank k c) g h →
       0 < drawn b h c → drawn b g c ≡ banks b c g
-  unfolding drawn suppliers order
+  unfolding drawn drawnAt banks suppliers order
   earlier-drawn g h c hg hh lg lh a l =
       earlier-first (λ k. b .plan .rank k c) (suppliers (b .plan) c) (banks b c) (b .con c .outstanding) g h
       (only-sorted (λ k. b .plan .rank k c) (λ g. eqb (b .plan .link g c) 1) (order (b .plan) c) (order-sorted (λ k. b .plan .rank k c) (b .plan .G)))
@@ -170,3 +172,8 @@ module _ (b : Book) where
 pub closing-keeps : (size : ℕ) → Keeps (closingRule size)
 unfolding closingRule
 closing-keeps size b f e = closing-facts b f
+
+-- after a closing the month holds no block: closing again is 13
+pub closing-again : (b : Book) (size : ℕ) → size ≡ closingLength (b .plan) → closingRefusal size (afterClosing b) ≡ 13
+unfolding closingRefusal afterClosing firstOf
+closing-again b size e = rw (eq-eqb size (closingLength (b .plan)) e)

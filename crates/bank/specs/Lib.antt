@@ -1,3 +1,5 @@
+pub mod Drawing
 pub mod Closing
 pub mod ClosingLaws
 pub mod ClosingOutput
+pub mod Arrays

@@ -1,2 +1,9 @@
 pub mod Block
 pub mod BlockLaws
+pub mod Refusals
+pub mod Readings
+pub mod Totals
+pub mod TotalsLaws
+pub mod RoomLaws
+pub mod Output
+pub mod Accepted

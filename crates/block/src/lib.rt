@@ -1,8 +1,353 @@
-// Definitions and laws of lists, sums and tests; the one function is the cast that every reader of a u32 uses.
+// The call `block`: rules 1 to 8 on a record.
 ghost use mathlib.Core.Path.{_≡_};
+ghost use mathlib.Core.Bool.{true};
+ghost use Prim.Native.Nat.{ℕ, _<_, _≤_, _+_, _*_};
+ghost use lib.Dec.{ltb};
+ghost use lib.ListN.{length, getD};
+ghost use Rattle.lists.specs.Choice.{if_then_else_};
+ghost use Rattle.lists.specs.Tests.{some};
+ghost use Rattle.energy.specs.Limits.{mostReading};
+ghost use Rattle.record.specs.Called.{numberOn};
+ghost use Rattle.block.specs.Block.{blockRule, Blocked};
+ghost use Rattle.block.specs.Refusals.{overLimit, ownRefusal};
+ghost use Rattle.block.specs.Readings.{readingAt};
+ghost use Rattle.block.specs.Totals.{byKind, zeros8, generatorsAfter, consumersAfter, GeneratorsRoom, ConsumersRoom, recordAfterBlock, RecordRoom};
+ghost use Rattle.block.specs.Output.{OutputRoom, sixLists, listsWritten};
+ghost use Rattle.block.specs.Accepted.{planIn, Entered};
+ghost use Rattle.settlement.specs.Arrays.{listsOf, Settleable};
+ghost use Rattle.lists.specs.Pairs.{place};
+ghost use Rattle.lists.specs.Tables.{table};
+use record::Answer;
+use record::Consumers;
+use record::Counts;
+use record::Generators;
+use record::Record;
+use settlement::Lists;
 
-pub fn wide(x: u32) -> u64
-    ensures { λ r. ⌜ r ≡ x ⌝ }
+// Whether a reading is over the limit.
+fn any_over(readings: &[u32]) -> bool
+    ensures { λ r. ⌜ r ≡ overLimit (now (readings .entry)) ⌝ }
 {
-    x as u64
+    let mut found = false;
+    let mut i: usize = 0;
+    while i < readings.len() {
+        found = found | (200_000_000 < readings[i]);
+        i += 1;
+    }
+    found
+}
+
+// The number where the test holds, else what later tests gave.
+fn first(test: bool, number: u32, later: u32) -> u32
+    ensures { λ r. ⌜ r ≡ (if test then number else later) ⌝ }
+{
+    if test { number } else { later }
+}
+
+// The refusals of a sound record with n generators and m consumers.
+fn own_refusal(n: usize, m: usize, counts: Counts, entry: &[u32], exit: &[u32], size: usize) -> u32
+    requires { ⌜ (n ≤ 8) × (m ≤ 16) ⌝ }
+    ensures { λ r. ⌜ r ≡ ownRefusal n m (counts .month) (counts .blocks) (now (entry .entry)) (now (exit .entry)) size ⌝ }
+{
+    let sized = (entry.len() == n) & (exit.len() == m) & (size == 4 * (n * m) + n + m);
+    let over = any_over(entry) | any_over(exit);
+    let unit_full = first(10_000_000 <= counts.blocks, 12, 0);
+    let month_full = first(3_360 <= counts.month, 11, unit_full);
+    let reading = first(over, 10, month_full);
+    first(!sized, 2, reading)
+}
+
+fn refusal(r: Record, entry: &[u32], exit: &[u32], size: usize) -> u32
+    ensures { λ x. ⌜ x ≡ numberOn (blockRule (now (entry .entry)) (now (exit .entry)) size) r ⌝ }
+{
+    if record::is_sound(r) {
+        let terms = r.terms;
+        let counts = r.counts;
+        let n = terms.generators as usize;
+        let m = terms.consumers as usize;
+        own_refusal(n, m, counts, entry, exit, size)
+    } else {
+        1
+    }
+}
+
+// The readings in the record's width, 0 beyond them.
+fn eight(readings: &[u32]) -> [u32; 8]
+    requires { ⌜ length (now readings) ≤ 8 ⌝ }
+    ensures { λ r. ⌜ r ≡ table 8 (readingAt (now (readings .entry))) ⌝ }
+{
+    let mut out = [0u32; 8];
+    let mut i: usize = 0;
+    while i < readings.len() {
+        out[i] = readings[i];
+        i += 1;
+    }
+    out
+}
+
+fn sixteen(readings: &[u32]) -> [u32; 16]
+    requires { ⌜ length (now readings) ≤ 16 ⌝ }
+    ensures { λ r. ⌜ r ≡ table 16 (readingAt (now (readings .entry))) ⌝ }
+{
+    let mut out = [0u32; 16];
+    let mut i: usize = 0;
+    while i < readings.len() {
+        out[i] = readings[i];
+        i += 1;
+    }
+    out
+}
+
+fn wide8(xs: [u32; 8]) -> [u64; 8]
+    ensures { λ r. ⌜ r ≡ table 8 (place 8 xs) ⌝ }
+{
+    let mut out = [0u64; 8];
+    let mut i: usize = 0;
+    while i < 8 {
+        out[i] = lists::wide(xs[i]);
+        i += 1;
+    }
+    out
+}
+
+fn wide16(xs: [u32; 16]) -> [u64; 16]
+    ensures { λ r. ⌜ r ≡ table 16 (place 16 xs) ⌝ }
+{
+    let mut out = [0u64; 16];
+    let mut i: usize = 0;
+    while i < 16 {
+        out[i] = lists::wide(xs[i]);
+        i += 1;
+    }
+    out
+}
+
+fn pick(test: bool, x: u64, y: u64) -> u64
+    ensures { λ r. ⌜ r ≡ (if test then x else y) ⌝ }
+{
+    if test { x } else { y }
+}
+
+// By generator: a for kind 0, b for the deemed kinds.
+fn by_kind(kind: [u64; 8], a: [u64; 8], b: [u64; 8]) -> [u64; 8]
+    ensures { λ r. ⌜ r ≡ byKind kind a b ⌝ }
+{
+    let mut out = [0u64; 8];
+    let mut g: usize = 0;
+    while g < 8 {
+        out[g] = pick(kind[g] == 0, a[g], b[g]);
+        g += 1;
+    }
+    out
+}
+
+fn generators_after(
+    t: Generators,
+    kind: [u64; 8],
+    entry: [u64; 8],
+    unaccounted: [u64; 8],
+    loss: &[u64; 128],
+    setoff: &[u64; 128],
+    underdrawn: &[u64; 128],
+    m: usize,
+) -> Generators
+    requires { ⌜ (m ≤ 16) × GeneratorsRoom t kind entry unaccounted (now loss) (now setoff) (now underdrawn) m ⌝ }
+    ensures { λ r. ⌜ r ≡ generatorsAfter t kind entry unaccounted (now (loss .entry)) (now (setoff .entry)) (now (underdrawn .entry)) m ⌝ }
+{
+    let under = arrays::row_sums(underdrawn, m);
+    let none = [0u64; 8];
+    let injected = t.injected;
+    let missed = t.unaccounted;
+    let lost = t.lost;
+    let set = t.setoff;
+    let inadvertent = t.inadvertent;
+    let pending = t.pending;
+    let charge = t.charge;
+    let drawn = t.drawn;
+    let lapsed = t.lapsed;
+    let bank = t.bank;
+    Generators {
+        injected: arrays::add8(injected, entry),
+        unaccounted: arrays::add8(missed, unaccounted),
+        lost: arrays::add8(lost, arrays::row_sums(loss, m)),
+        setoff: arrays::add8(set, arrays::row_sums(setoff, m)),
+        inadvertent: arrays::add8(inadvertent, by_kind(kind, under, none)),
+        charge,
+        drawn,
+        lapsed,
+        bank,
+        pending: arrays::add8(pending, by_kind(kind, none, under)),
+    }
+}
+
+fn consumers_after(
+    t: Consumers,
+    exit: [u64; 16],
+    setoff: &[u64; 128],
+    shortfall: &[u64; 128],
+    remainder: [u64; 16],
+    n: usize,
+) -> Consumers
+    requires { ⌜ (n ≤ 8) × ConsumersRoom t exit (now setoff) (now shortfall) remainder n ⌝ }
+    ensures { λ r. ⌜ r ≡ consumersAfter t exit (now (setoff .entry)) (now (shortfall .entry)) remainder n ⌝ }
+{
+    let metered = t.metered;
+    let set = t.setoff;
+    let short = t.shortfall;
+    let outstanding = t.outstanding;
+    let drawn = t.drawn;
+    let supplied = t.supplied;
+    Consumers {
+        metered: arrays::add16(metered, exit),
+        setoff: arrays::add16(set, arrays::column_sums(setoff, n)),
+        shortfall: arrays::add16(short, arrays::column_sums(shortfall, n)),
+        drawn,
+        supplied,
+        outstanding: arrays::add16(outstanding, remainder),
+    }
+}
+
+// Rule 8 on the whole record.
+fn after_block(r: Record, entry: [u32; 8], exit: [u32; 16], x: Lists) -> Record
+    requires { ⌜ RecordRoom r entry exit x ⌝ }
+    ensures { λ a. ⌜ a ≡ recordAfterBlock r entry exit x ⌝ }
+{
+    let terms = r.terms;
+    let counted = r.counts;
+    let agreed = r.agreed;
+    let links = r.links;
+    let schedule = r.schedule;
+    let kind = agreed.kind;
+    let before = r.generators;
+    let owed = r.consumers;
+    let loss = x.loss;
+    let setoff = x.setoff;
+    let underdrawn = x.underdrawn;
+    let shortfall = x.shortfall;
+    let unaccounted = x.unaccounted;
+    let remainder = x.remainder;
+    let m = terms.consumers as usize;
+    let n = terms.generators as usize;
+    let injected = wide8(entry);
+    let metered = wide16(exit);
+    let generators = generators_after(
+        before,
+        kind,
+        injected,
+        unaccounted,
+        &loss,
+        &setoff,
+        &underdrawn,
+        m,
+    );
+    let consumers = consumers_after(owed, metered, &setoff, &shortfall, remainder, n);
+    Record {
+        terms,
+        counts: Counts {
+            gone: counted.gone,
+            blocks: counted.blocks + 1,
+            month: counted.month + 1,
+        },
+        agreed,
+        links,
+        schedule,
+        generators,
+        consumers,
+    }
+}
+
+// Rules 1 to 7 on the arrays of a record.
+fn settled(r: Record, entry: [u32; 8], exit: [u32; 16]) -> Lists
+    requires { ⌜ Settleable (planIn r) (place 8 entry) (place 16 exit) ⌝ }
+    ensures { λ x. ⌜ x ≡ listsOf (planIn r) (place 8 entry) (place 16 exit) ⌝ }
+{
+    let terms = r.terms;
+    let agreed = r.agreed;
+    let links = r.links;
+    let schedule = r.schedule;
+    let kind = agreed.kind;
+    let loss = links.loss;
+    let kw = schedule.kw;
+    let rank = schedule.rank;
+    let n = terms.generators as usize;
+    let m = terms.consumers as usize;
+    settlement::settle_block(n, m, kind, &kw, &loss, &rank, entry, exit)
+}
+
+// The block's output: each list into its own stretch of the slice.
+fn write_lists(
+    out: &mut [u64],
+    loss: &[u64; 128],
+    setoff: &[u64; 128],
+    underdrawn: &[u64; 128],
+    shortfall: &[u64; 128],
+    unaccounted: [u64; 8],
+    remainder: [u64; 16],
+    n: usize,
+    m: usize,
+)
+    requires { ⌜ OutputRoom (now out) n m ⌝ }
+    ensures { λ r. ⌜ now (out .exit) ≡ sixLists (now (loss .entry)) (now (setoff .entry)) (now (underdrawn .entry)) (now (shortfall .entry)) unaccounted remainder n m ⌝ }
+{
+    let size = n * m;
+    let second = size + size;
+    let third = second + size;
+    let fourth = third + size;
+    let last = fourth + n;
+    arrays::put_pairs(out, 0, loss, n, m);
+    arrays::put_pairs(out, size, setoff, n, m);
+    arrays::put_pairs(out, second, underdrawn, n, m);
+    arrays::put_pairs(out, third, shortfall, n, m);
+    arrays::put8(out, fourth, &unaccounted, n);
+    arrays::put16(out, last, &remainder, m);
+}
+
+fn write_output(out: &mut [u64], x: Lists, n: usize, m: usize)
+    requires { ⌜ OutputRoom (now out) n m ⌝ }
+    ensures { λ r. ⌜ now (out .exit) ≡ listsWritten x n m ⌝ }
+{
+    let loss = x.loss;
+    let setoff = x.setoff;
+    let underdrawn = x.underdrawn;
+    let shortfall = x.shortfall;
+    let unaccounted = x.unaccounted;
+    let remainder = x.remainder;
+    write_lists(
+        out,
+        &loss,
+        &setoff,
+        &underdrawn,
+        &shortfall,
+        unaccounted,
+        remainder,
+        n,
+        m,
+    );
+}
+
+fn accepted(r: Record, entry: &[u32], exit: &[u32], out: &mut [u64]) -> Record
+    requires { ⌜ numberOn (blockRule (now entry) (now exit) (length (now out))) r ≡ 0 ⌝ }
+    ensures { λ a. ⌜ Entered r (now (entry .entry)) (now (exit .entry)) a (now (out .exit)) ⌝ }
+{
+    let terms = r.terms;
+    let n = terms.generators as usize;
+    let m = terms.consumers as usize;
+    let injected = eight(entry);
+    let metered = sixteen(exit);
+    let x = settled(r, injected, metered);
+    write_output(out, x, n, m);
+    after_block(r, injected, metered, x)
+}
+
+// One block: an entry reading a generator, an exit reading a consumer, and the slice for its lists.
+pub fn block(r: Record, entry: &[u32], exit: &[u32], out: &mut [u64]) -> Answer
+    ensures { λ a. ⌜ Blocked r (now (entry .entry)) (now (exit .entry)) (now (out .entry)) a (now (out .exit)) ⌝ }
+{
+    let number = refusal(r, entry, exit, out.len());
+    if number == 0 {
+        let after = accepted(r, entry, exit, out);
+        Answer { number: 0, after }
+    } else {
+        Answer { number, after: r }
+    }
 }

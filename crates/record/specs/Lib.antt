@@ -7,3 +7,7 @@ pub mod SoundLaws
 pub mod StoredLaws
 pub mod CalledLaws
 pub mod WordsLaws
+pub mod Shape
+pub mod Capped
+pub mod CappedLaws
+pub mod SoundTests

@@ -1,3 +1,7 @@
 pub mod Settlement
 pub mod SettlementLaws
 pub mod Arrays
+pub mod Columns
+pub mod Consumers
+pub mod Beyond
+pub mod ListsLaws

@@ -18,6 +18,7 @@ use Rattle.record.specs.Book.{Book, noInjection, noConsumption}
 use Rattle.agreement.specs.Opening.{Opening, kindOf, installedOf, contractedOf, linkOf, rateOfLoss, openingRefusal, opened}
 use Rattle.agreement.specs.Schedule.{newKw, newRank, scheduleRefusal, afterSchedule, scheduleRule}
 use Rattle.block.specs.Block.{generatorAfterBlock, consumerAfterBlock, afterBlock, blockLength, entryOf, exitOf, blockRefusal, blockRule}
+use Rattle.bank.specs.Drawing.{stockAt, drawnAt, missingAt}
 use Rattle.bank.specs.Closing.{takenUp, charge, credited, banks, drawn, supplied, lapses, goneAfter, bankBeforeLapse, lapsed, bankAfter, generatorAfterClosing, consumerAfterClosing, afterClosing, closingLists, closingOutput, closingLength, closingRefusal, closingRule}
 use Rattle.unit.specs.Calls.{Call, schedule, block, closing, ruleOf, next, bookAfter, Entry, bookAnswers}
 
@@ -140,7 +141,7 @@ pub record BenchCases : Type 0 where
       []
 
 pub bench-cases : BenchCases
-unfolding agreementA oneConsumer oneScheduled twoScheduled wind slot50 sum table all some within place cell pairs joined firstOf portionUp lossOn part span insert sort only ahead inOrder lower settle given kept unmet deemed scheduled order suppliers counted unaccounted partOf lossOf delivered atExit setOff afterSetOff underdrawn shortfall remainder blockLists blockOutput noInjection noConsumption kindOf installedOf contractedOf linkOf rateOfLoss openingRefusal opened newKw newRank scheduleRefusal afterSchedule scheduleRule generatorAfterBlock consumerAfterBlock afterBlock blockLength entryOf exitOf blockRefusal blockRule takenUp charge credited banks drawn supplied lapses goneAfter bankBeforeLapse lapsed bankAfter generatorAfterClosing consumerAfterClosing afterClosing closingLists closingOutput closingLength closingRefusal closingRule ruleOf next bookAfter bookAnswers
+unfolding agreementA oneConsumer oneScheduled twoScheduled wind slot50 sum table all some within place cell pairs joined firstOf portionUp lossOn part span insert sort only ahead inOrder lower settle given kept unmet deemed scheduled order suppliers counted unaccounted partOf lossOf delivered atExit setOff afterSetOff underdrawn shortfall remainder blockLists blockOutput noInjection noConsumption kindOf installedOf contractedOf linkOf rateOfLoss openingRefusal opened newKw newRank scheduleRefusal afterSchedule scheduleRule generatorAfterBlock consumerAfterBlock afterBlock blockLength entryOf exitOf blockRefusal blockRule takenUp charge credited stockAt drawnAt missingAt banks drawn supplied lapses goneAfter bankBeforeLapse lapsed bankAfter generatorAfterClosing consumerAfterClosing afterClosing closingLists closingOutput closingLength closingRefusal closingRule ruleOf next bookAfter bookAnswers
 bench-cases =
     record {
       all-opened = refl;

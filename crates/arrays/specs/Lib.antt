@@ -1,0 +1,6 @@
+pub mod Bounds
+pub mod BoundsLaws
+pub mod Put
+pub mod PutLaws
+pub mod Written
+pub mod Rows

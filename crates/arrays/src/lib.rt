@@ -1,0 +1,146 @@
+// Adds, sums and writes out the lists of a record: lists of 8 or 16 numbers, and pair lists of 8 rows of 16.
+ghost use mathlib.Core.Path.{_≡_};
+ghost use Prim.Native.Nat.{_+_, _*_, _<_, _≤_};
+ghost use lib.ListN.{length, getD};
+ghost use Rattle.lists.specs.Tables.{table};
+ghost use Rattle.lists.specs.Sums.{sum};
+ghost use Rattle.lists.specs.Pairs.{place, cell, pairs};
+ghost use Rattle.arrays.specs.Bounds.{Moderate, Room};
+ghost use Rattle.arrays.specs.Put.{Put};
+
+pub fn add8(a: [u64; 8], b: [u64; 8]) -> [u64; 8]
+    requires { ⌜ Room 8 a b ⌝ }
+    ensures { λ r. ⌜ r ≡ table 8 (λ g. place 8 a g + place 8 b g) ⌝ }
+{
+    let mut out = [0u64; 8];
+    let mut g: usize = 0;
+    while g < 8 {
+        out[g] = a[g] + b[g];
+        g += 1;
+    }
+    out
+}
+
+pub fn add16(a: [u64; 16], b: [u64; 16]) -> [u64; 16]
+    requires { ⌜ Room 16 a b ⌝ }
+    ensures { λ r. ⌜ r ≡ table 16 (λ c. place 16 a c + place 16 b c) ⌝ }
+{
+    let mut out = [0u64; 16];
+    let mut c: usize = 0;
+    while c < 16 {
+        out[c] = a[c] + b[c];
+        c += 1;
+    }
+    out
+}
+
+fn row_sum(m: &[u64; 128], g: usize, w: usize) -> u64
+    requires { ⌜ (g < 8) × ((w ≤ 16) × (Moderate (now m))) ⌝ }
+    ensures { λ r. ⌜ r ≡ sum w (λ c. cell 8 16 (now (m .entry)) g c) ⌝ }
+{
+    let mut s: u64 = 0;
+    let mut c: usize = 0;
+    while c < w {
+        s = s + m[g * 16 + c];
+        c += 1;
+    }
+    s
+}
+
+fn column_sum(m: &[u64; 128], c: usize, n: usize) -> u64
+    requires { ⌜ (c < 16) × ((n ≤ 8) × (Moderate (now m))) ⌝ }
+    ensures { λ r. ⌜ r ≡ sum n (λ g. cell 8 16 (now (m .entry)) g c) ⌝ }
+{
+    let mut s: u64 = 0;
+    let mut g: usize = 0;
+    while g < n {
+        s = s + m[g * 16 + c];
+        g += 1;
+    }
+    s
+}
+
+// Each row summed over its first w numbers.
+pub fn row_sums(m: &[u64; 128], w: usize) -> [u64; 8]
+    requires { ⌜ (w ≤ 16) × (Moderate (now m)) ⌝ }
+    ensures { λ r. ⌜ r ≡ table 8 (λ g. sum w (λ c. cell 8 16 (now (m .entry)) g c)) ⌝ }
+{
+    let mut out = [0u64; 8];
+    let mut g: usize = 0;
+    while g < 8 {
+        out[g] = row_sum(m, g, w);
+        g += 1;
+    }
+    out
+}
+
+// Each column summed over the first n rows.
+pub fn column_sums(m: &[u64; 128], n: usize) -> [u64; 16]
+    requires { ⌜ (n ≤ 8) × (Moderate (now m)) ⌝ }
+    ensures { λ r. ⌜ r ≡ table 16 (λ c. sum n (λ g. cell 8 16 (now (m .entry)) g c)) ⌝ }
+{
+    let mut out = [0u64; 16];
+    let mut c: usize = 0;
+    while c < 16 {
+        out[c] = column_sum(m, c, n);
+        c += 1;
+    }
+    out
+}
+
+// Fills `out` with the first numbers of `xs`.
+pub fn write_list(out: &mut [u64], xs: &[u64])
+    requires { ⌜ length (now out) ≤ length (now xs) ⌝ }
+    ensures { λ r. ⌜ now (out .exit) ≡ table (length (now (out .entry))) (λ i. getD (now (xs .entry)) i 0) ⌝ }
+{
+    let n = out.len();
+    let mut i: usize = 0;
+    while i < n {
+        out[i] = xs[i];
+        i += 1;
+    }
+}
+
+// Writes the first w numbers of each of the first n rows, row by row.
+pub fn write_pairs(out: &mut [u64], m: &[u64; 128], n: usize, w: usize)
+    requires { ⌜ (length (now out) ≡ n * w) × ((n ≤ 8) × (w ≤ 16)) ⌝ }
+    ensures { λ r. ⌜ now (out .exit) ≡ pairs n w (cell 8 16 (now (m .entry))) ⌝ }
+{
+    let all = &m[..];
+    let mut at: usize = 0;
+    let mut g: usize = 0;
+    while g < n {
+        let end = at + w;
+        let from = g * 16;
+        let to = from + w;
+        write_list(&mut out[at..end], &all[from..to]);
+        at = end;
+        g += 1;
+    }
+}
+
+// Writes a pair list into `out` from place `at` on; what stands before and after it stays.
+pub fn put_pairs(out: &mut [u64], at: usize, m: &[u64; 128], n: usize, w: usize)
+    requires { ⌜ (at + n * w ≤ length (now out)) × ((n ≤ 8) × (w ≤ 16)) ⌝ }
+    ensures { λ r. ⌜ Put at (n * w) (pairs n w (cell 8 16 (now (m .entry)))) (now (out .entry)) (now (out .exit)) ⌝ }
+{
+    let end = at + n * w;
+    write_pairs(&mut out[at..end], m, n, w);
+}
+
+// Writes the first n numbers of `xs` into `out` from place `at` on.
+pub fn put8(out: &mut [u64], at: usize, xs: &[u64; 8], n: usize)
+    requires { ⌜ (at + n ≤ length (now out)) × (n ≤ 8) ⌝ }
+    ensures { λ r. ⌜ Put at n (table n (λ i. getD (now (xs .entry)) i 0)) (now (out .entry)) (now (out .exit)) ⌝ }
+{
+    let end = at + n;
+    write_list(&mut out[at..end], xs);
+}
+
+pub fn put16(out: &mut [u64], at: usize, xs: &[u64; 16], n: usize)
+    requires { ⌜ (at + n ≤ length (now out)) × (n ≤ 16) ⌝ }
+    ensures { λ r. ⌜ Put at n (table n (λ i. getD (now (xs .entry)) i 0)) (now (out .entry)) (now (out .exit)) ⌝ }
+{
+    let end = at + n;
+    write_list(&mut out[at..end], xs);
+}

@@ -1,0 +1,69 @@
+-- Steps 1, 2 and 4 of a closing on arrays, as the code has them. Assumes nothing.
+use Prim.Native.Nat.{ℕ, _+_, _-_, _≤_, _<_}
+use mathlib.Core.Bool.{Bool}
+use mathlib.Core.List.{List}
+use mathlib.Core.Path.{_≡_}
+use Rattle.lists.specs.Choice.{if_then_else_}
+use Rattle.lists.specs.Tables.{table}
+use Rattle.lists.specs.Pairs.{place, cell, pairs}
+use Rattle.energy.specs.Energy.{portionUp}
+use Rattle.energy.specs.Limits.{mostRate}
+use Rattle.order.specs.Settle.{given, kept, unmet}
+use Rattle.delivery.specs.Plan.{Plan, suppliers}
+use Rattle.bank.specs.Drawing.{stockAt, drawnAt, missingAt}
+use Rattle.bank.specs.declared.Bank.{Bank}
+use Rattle.bank.specs.declared.Credit.{Credit}
+use Rattle.bank.specs.declared.Draw.{Draw}
+use Rattle.bank.specs.declared.Lapse.{Lapse}
+use Rattle.bank.specs.declared.Drawing.{Drawing}
+
+-- Step 1
+unfoldable pub creditOf : Bank → List ℕ → ℕ → Credit
+creditOf x pending rate =
+    record {
+      bank = record { balance = table 8 (λ g. place 8 (x .balance) g + (place 8 pending g - portionUp (place 8 pending g) rate)) };
+      charge = table 8 (λ g. portionUp (place 8 pending g) rate);
+    }
+
+-- what a sound record gives: no figure is over 2 x 10^15
+pub record Creditable (x : Bank) (pending : List ℕ) (rate : ℕ) : Type 0 where
+  pub moderate : (g : ℕ) → g < 8 → place 8 (x .balance) g + place 8 pending g ≤ 2_000_000_000_000_000
+  pub rate-high : rate ≤ mostRate
+
+-- the figures that drawing looks at: n generators, m consumers, ranks and links
+unfoldable pub linkPlan : ℕ → ℕ → List ℕ → List ℕ → Plan
+linkPlan n m rank link =
+    record {
+      G = n;
+      C = m;
+      kind = λ g. 0;
+      installed = λ g. 0;
+      contracted = λ g. 0;
+      link = cell 8 16 link;
+      loss = λ g c. 0;
+      kw = λ g c. 0;
+      rank = cell 8 16 rank;
+    }
+
+-- Step 2 for one consumer, by its suppliers in their order
+unfoldable pub drawOf : Bank → List ℕ → ℕ → Draw
+drawOf x gs want =
+    let has = place 8 (x .balance) in
+    record { bank = record { balance = table 8 (kept gs has want) }; drawn = table 8 (given gs has want); left = unmet gs has want }
+
+-- Steps 2 and 3 for all consumers
+unfoldable pub drawingOf : Plan → Bank → List ℕ → Drawing
+drawingOf p x outstanding =
+    let has = place 8 (x .balance) in
+    let want = place 16 outstanding in
+    record {
+      bank = record { balance = table 8 (stockAt p has want (p .C)) };
+      drawn = pairs 8 16 (drawnAt p has want);
+      supplied = table 16 (missingAt p has want);
+    }
+
+-- Step 4: where the cycle ends every balance lapses
+unfoldable pub lapseOf : Bank → Bool → Lapse
+lapseOf x ends =
+    let has = place 8 (x .balance) in
+    record { bank = record { balance = table 8 (λ g. if ends then 0 else has g) }; lapsed = table 8 (λ g. if ends then has g else 0) }

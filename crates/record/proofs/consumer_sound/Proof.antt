@@ -1,0 +1,68 @@
+-- `record::consumer_sound` meets its contract: no sum of five capped terms wraps, and it compares with metered as the whole sum does.
+use borrow.Author.Needs.{needs}
+use Rattle.record.specs.Sound.{consumerSound}
+use Rattle.record.specs.CappedLaws.{capped-equation, clip-add}
+use Rattle.record.proofs.consumer_sound.Statement.{statement}
+use Rattle.record.proofs.consumer_sound.Tie as tie
+
+mul-limit-at : tie.Need-mul-limit-at
+mul-limit-at c = search needs
+
+limit-at-requires : tie.Need-limit-at-requires
+limit-at-requires c κs = search needs
+
+capped-requires : tie.Need-capped-requires
+capped-requires c κs = search needs
+
+capped-requires-2 : tie.Need-capped-requires-2
+capped-requires-2 c κs = search needs
+
+add-split : tie.Need-add-split
+add-split c = search needs
+
+capped-requires-3 : tie.Need-capped-requires-3
+capped-requires-3 c κs = search needs
+
+add-split-2 : tie.Need-add-split-2
+add-split-2 c = search needs
+
+capped-requires-4 : tie.Need-capped-requires-4
+capped-requires-4 c κs = search needs
+
+add-split-3 : tie.Need-add-split-3
+add-split-3 c = search needs
+
+capped-requires-5 : tie.Need-capped-requires-5
+capped-requires-5 c κs = search needs
+
+add-split-4 : tie.Need-add-split-4
+add-split-4 c = search needs
+
+returns : tie.Need-returns
+unfolding consumerSound
+returns c =
+    capped-equation (c .before .before .before .before .before .before .before .before .args .inside) _ _
+    (c .before .before .before .before .before .before .before .limit-at .ensures)
+    (c .before .before .before .before .before .before .before .before .pre)
+    (clip-add (clip-add (clip-add (clip-add (c .before .before .before .before .before .before .capped .ensures .cut)
+    (c .before .before .before .before .before .capped2 .ensures))
+    (c .before .before .before .before .capped3 .ensures))
+    (c .before .before .before .capped4 .ensures))
+    (c .before .before .capped5 .ensures))
+
+pub consumer-sound-spec : {M : Type 1} → statement M
+consumer-sound-spec =
+    tie.close
+    (tie.spec
+    mul-limit-at
+    limit-at-requires
+    capped-requires
+    capped-requires-2
+    add-split
+    capped-requires-3
+    add-split-2
+    capped-requires-4
+    add-split-3
+    capped-requires-5
+    add-split-4
+    returns)

@@ -1,0 +1,94 @@
+-- `settlement::settle_all` meets its contract: the columns and places of c consumers are by the rules. Assumes nothing.
+use Prim.Native.Nat.{_<_, _-_, _≤_}
+use mathlib.Core.Path.{_≡_, sym, _∙_}
+use native.Mathlib.Omega.{arith}
+use borrow.Author.Needs.{needs}
+use Rattle.lists.specs.PairsLaws.{place-in}
+use Rattle.lists.specs.Pairs.{place, cell}
+use Rattle.settlement.specs.Consumers.{AllSettled, all-start, all-step}
+use Rattle.settlement.proofs.settle_all.Statement.{statement}
+use Rattle.settlement.proofs.settle_all.Tie as tie
+
+abbrev Inv-loop : tie.InvT-loop
+Inv-loop n m rank exit delivered gap out₀ c₀ out c =
+    AllSettled n (cell 8 16 rank) (record { loss = out₀ .loss; delivered = delivered; gap = gap; unaccounted = out₀ .unaccounted }) (place 16 exit) c out
+    × (c ≤ m)
+
+abbrev μ-loop : tie.MeasureT-loop
+μ-loop n m rank exit delivered gap out₀ c₀ out c = m - c
+
+loop-holds : tie.Need-loop-holds Inv-loop μ-loop
+loop-holds c = (all-start _ _ _ _, search needs)
+
+mul-wide : tie.Need-mul-wide Inv-loop μ-loop
+mul-wide c = search needs
+
+array-read-wide : tie.Need-array-read-wide Inv-loop μ-loop
+array-read-wide c = search needs
+
+wide-requires : tie.Need-wide-requires Inv-loop μ-loop
+wide-requires c κs = search needs
+
+settle-one-requires : tie.Need-settle-one-requires Inv-loop μ-loop
+settle-one-requires c κs = search needs
+
+put-requires : tie.Need-put-requires Inv-loop μ-loop
+put-requires c κs = search needs
+
+put-requires-2 : tie.Need-put-requires-2 Inv-loop μ-loop
+put-requires-2 c κs = search needs
+
+put-requires-3 : tie.Need-put-requires-3 Inv-loop μ-loop
+put-requires-3 c κs = search needs
+
+mul-out : tie.Need-mul-out Inv-loop μ-loop
+mul-out c = search needs
+
+element-write-out : tie.Need-element-write-out Inv-loop μ-loop
+element-write-out c = search needs
+
+add-c : tie.Need-add-c Inv-loop μ-loop
+add-c c = search needs
+
+loop-less : tie.Need-loop-less Inv-loop μ-loop
+loop-less c = search needs
+
+loop-again : tie.Need-loop-again Inv-loop μ-loop
+loop-again c =
+    let second = c .before .before .before in
+    let first = second .before .before .before in
+    let one = first .before .before .before in
+    let turn = one .before .before .before .before in
+    let l = turn .before .loop in
+    let b : l .c < 16 = omega (arith, turn .loop-test .taken, turn .before .before .before .before .before .before .pre .1) in
+    let read = one .before .wide .ensures ∙ sym (place-in 16 _ _ b) in (
+      all-step _ _ _ _ (l .inv .0) b read (one .«settle-one» .ensures) (first .put .ensures) (second .put2 .ensures) (c .put3 .ensures),
+      omega (arith, turn .loop-test .taken),
+    )
+
+returns : tie.Need-returns Inv-loop μ-loop
+returns c =
+    let l = c .before .loop in
+    let e : l .c ≡ c .before .before .before .before .before .before .args .m = omega arith in
+    rw e at (l .inv .0)
+
+pub settle-all-spec : {M : Type 1} → statement M
+settle-all-spec =
+    tie.close
+    (tie.spec
+    Inv-loop
+    μ-loop
+    loop-holds
+    mul-wide
+    array-read-wide
+    wide-requires
+    settle-one-requires
+    put-requires
+    put-requires-2
+    put-requires-3
+    mul-out
+    element-write-out
+    add-c
+    loop-less
+    loop-again
+    returns)

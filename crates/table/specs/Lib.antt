@@ -1,0 +1,10 @@
+pub mod Table
+pub mod Cases
+pub mod TableLaws
+pub mod Scan
+pub mod Parts
+pub mod Scanning
+pub mod Loops
+pub mod Reading
+pub mod Accepting
+pub mod ReadMeetsLaws

@@ -1,0 +1,5 @@
+pub mod TableText
+pub mod TableTextLaws
+pub mod Laying
+pub mod LayingLaws
+pub mod Naming
