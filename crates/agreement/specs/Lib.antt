@@ -2,3 +2,9 @@ pub mod Opening
 pub mod Schedule
 pub mod OpeningLaws
 pub mod ScheduleLaws
+pub mod Reading
+pub mod ReadingLaws
+pub mod Refusing
+pub mod RefusingLaws
+pub mod Storing
+pub mod StoringLaws

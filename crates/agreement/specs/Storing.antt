@@ -1,0 +1,40 @@
+-- The parts of a record that opening and schedule make of the lists given. Assumes nothing.
+use Prim.Native.Nat.{ℕ, _*_}
+use mathlib.Core.Bool.{_&&_}
+use mathlib.Core.List.{List}
+use lib.Dec.{ltb}
+use lib.ListN.{take, drop}
+use Rattle.lists.specs.Choice.{if_then_else_}
+use Rattle.lists.specs.Tables.{table}
+use Rattle.lists.specs.Pairs.{cell, pairs}
+use Rattle.record.specs.declared.Agreed.{Agreed}
+use Rattle.record.specs.declared.Links.{Links}
+use Rattle.record.specs.declared.Schedule.{Schedule}
+use Rattle.record.specs.declared.Record.{Record}
+
+unfoldable pub agreedFrom : ℕ → List ℕ → Agreed
+agreedFrom n xs =
+    record { kind = table 8 (λ g. cell n 3 xs g 0); installed = table 8 (λ g. cell n 3 xs g 1); contracted = table 8 (λ g. cell n 3 xs g 2) }
+
+unfoldable pub linksFrom : ℕ → ℕ → List ℕ → Links
+linksFrom n m xs = record { link = pairs 8 16 (cell n m (take (n * m) xs)); loss = pairs 8 16 (cell n m (drop (n * m) xs)) }
+
+-- no kW, and every rank 1
+unfoldable pub firstSchedule : ℕ → ℕ → Schedule
+firstSchedule n m = record { kw = pairs 8 16 (λ g c. 0); rank = pairs 8 16 (λ g c. if ltb g n && ltb c m then 1 else 0) }
+
+unfoldable pub scheduleFrom : ℕ → ℕ → List ℕ → List ℕ → Schedule
+scheduleFrom n m kws ranks = record { kw = pairs 8 16 (cell n m kws); rank = pairs 8 16 (cell n m ranks) }
+
+-- the record with another schedule
+unfoldable pub withSchedule : Record → Schedule → Record
+withSchedule r s =
+    record {
+      terms = r .terms;
+      counts = r .counts;
+      agreed = r .agreed;
+      links = r .links;
+      schedule = s;
+      generators = r .generators;
+      consumers = r .consumers;
+    }
