@@ -1,4 +1,14 @@
 // The bank: one balance a generator, with its own calls and limits (steps 1, 2 and 4 of a closing).
+ghost use mathlib.Core.Path.{_≡_};
+ghost use Prim.Native.Nat.{_<_, _≤_};
+ghost use lib.Dec.{eqb};
+ghost use lib.ListN.{length};
+ghost use Rattle.lists.specs.Pairs.{cell};
+ghost use Rattle.order.specs.Order.{inOrder, only};
+ghost use Rattle.bank.specs.Arrays.{Creditable, creditOf, drawOf, drawingOf, lapseOf, linkPlan};
+ghost use Rattle.bank.specs.Columns.{Put};
+ghost use Rattle.bank.specs.DrawingLaws.{Drawable};
+use energy::Wh;
 
 pub struct Bank {
     pub balance: [u64; 8],
@@ -28,4 +38,112 @@ pub struct Drawing {
     pub bank: Bank,
     pub drawn: [u64; 128],
     pub supplied: [u64; 16],
+}
+
+impl Bank {
+    // The most that a balance, or a month's pending, comes to: what one place meters in the life of a unit.
+    pub const MOST_ENERGY: u64 = 2_000_000_000_000_000;
+
+    // The highest charge rate, in hundredths of a percent.
+    pub const MOST_RATE: u64 = 5_000;
+
+    // The longest cycle, in months.
+    pub const MOST_CYCLE: u64 = 12;
+
+    // Step 1: what the bank held before is not charged again.
+    pub fn credit(self, pending: [u64; 8], rate: u64) -> Credit
+        requires { ⌜ Creditable self pending rate ⌝ }
+        ensures { λ r. ⌜ r ≡ creditOf self pending rate ⌝ }
+    {
+        let mut balance = self.balance;
+        let mut charge = [0u64; 8];
+        let mut g: usize = 0;
+        while g < 8 {
+            let due = energy::portion_up(Wh(pending[g]), rate);
+            balance[g] += pending[g] - due.0;
+            charge[g] = due.0;
+            g += 1;
+        }
+        let bank = Bank { balance };
+        Credit { bank, charge }
+    }
+
+    // Step 2 for consumer c: its linked generators give in their order.
+    pub fn draw(self, n: usize, rank: &[u64; 128], link: &[u64; 128], c: usize, want: u64) -> Draw
+        requires { ⌜ (c < 16) × (n ≤ 8) ⌝ }
+        ensures { λ r. ⌜ r ≡ drawOf self (only (λ g. eqb (cell 8 16 (now (link .entry)) g c) 1) (inOrder (λ g. cell 8 16 (now (rank .entry)) g c) n)) want ⌝ }
+    {
+        let turns = order::in_order(rank, c, n);
+        let linked = order::keep(turns, n, link, c);
+        let at = linked.at;
+        let stock = self.balance;
+        let settled = order::settle(at, linked.count, stock, want);
+        let balance = settled.rest;
+        let drawn = settled.taken;
+        let bank = Bank { balance };
+        Draw {
+            bank,
+            drawn,
+            left: settled.left,
+        }
+    }
+
+    // Step 4: at the end of a cycle nothing stays.
+    pub fn lapse(self, ends: bool) -> Lapse
+        ensures { λ r. ⌜ r ≡ lapseOf self ends ⌝ }
+    {
+        let none = [0u64; 8];
+        if ends {
+            let lapsed = self.balance;
+            let bank = Bank { balance: none };
+            return Lapse { bank, lapsed };
+        }
+        Lapse {
+            bank: self,
+            lapsed: none,
+        }
+    }
+}
+
+fn put(m: &mut [u64; 128], c: usize, xs: [u64; 8])
+    requires { ⌜ (c < 16) × (length (now m) ≡ 128) ⌝ }
+    ensures { λ r. ⌜ Put (now (m .entry)) c xs 8 (now (m .exit)) ⌝ }
+{
+    let mut g: usize = 0;
+    while g < 8 {
+        m[g * 16 + c] = xs[g];
+        g += 1;
+    }
+}
+
+// Steps 2 and 3: consumers 1 to m draw one after the other. The columns and places from m on stay the zeros that they are made with.
+pub fn draw_all(
+    bank: Bank,
+    n: usize,
+    m: usize,
+    rank: &[u64; 128],
+    link: &[u64; 128],
+    outstanding: [u64; 16],
+) -> Drawing
+    requires { ⌜ Drawable n m outstanding ⌝ }
+    ensures { λ r. ⌜ r ≡ drawingOf (linkPlan n m (now (rank .entry)) (now (link .entry))) bank outstanding ⌝ }
+{
+    let mut left = bank;
+    let mut drawn = [0u64; 128];
+    let mut supplied = [0u64; 16];
+    let mut c: usize = 0;
+    while c < m {
+        let turn = left.draw(n, rank, link, c, outstanding[c]);
+        let column = turn.drawn;
+        put(&mut drawn, c, column);
+        supplied[c] = turn.left;
+        let next = turn.bank;
+        left = next;
+        c += 1;
+    }
+    Drawing {
+        bank: left,
+        drawn,
+        supplied,
+    }
 }

@@ -1,0 +1,102 @@
+-- The bank's own calls, steps 1, 2 and 4 of a closing, as the code goes through them. Assumes nothing.
+use Prim.Native.Nat.{ℕ, _+_, _-_, _≤_, _<_}
+use mathlib.Core.Path.{_≡_, refl, sym, ap, _∙_}
+use mathlib.Core.Bool.{Bool, true, false}
+use mathlib.Core.List.{List}
+use native.Mathlib.Omega.{arith}
+use lib.ListN.{length, getD, set, replicate}
+use Rattle.lists.specs.Tables.{table, is-table, Filling, fill-start, fill-step, fill-here, fill-done}
+use Rattle.lists.specs.Pairs.{place}
+use Rattle.lists.specs.PairsLaws.{place-in}
+use Rattle.energy.specs.Energy.{portionUp}
+use Rattle.energy.specs.EnergyLaws.{portion-le}
+use Rattle.order.specs.Order.{only}
+use Rattle.order.specs.Members.{Below}
+use Rattle.order.specs.Settle.{given, kept, unmet}
+use Rattle.order.specs.Settling.{settled, settledBy, settled-table}
+use Rattle.order.specs.declared.Settled.{Settled}
+use Rattle.bank.specs.declared.Bank.{Bank}
+use Rattle.bank.specs.declared.Credit.{Credit}
+use Rattle.bank.specs.declared.Draw.{Draw}
+use Rattle.bank.specs.declared.Lapse.{Lapse}
+use Rattle.bank.specs.Arrays.{creditOf, Creditable, drawOf, lapseOf}
+
+-- the balances as a rule by generator
+pub balances : (xs : List ℕ) → length xs ≡ 8 → xs ≡ table 8 (place 8 xs)
+balances xs z = is-table 0 8 (place 8 xs) xs z (λ g l. sym (place-in 8 xs g l))
+
+-- ---- step 1
+
+module _ (old pending : List ℕ) (rate : ℕ) where
+  unfoldable pub chargeAt : ℕ → ℕ
+  chargeAt g = portionUp (place 8 pending g) rate
+
+  unfoldable pub creditAt : ℕ → ℕ
+  creditAt g = place 8 old g + (place 8 pending g - chargeAt g)
+
+  -- The invariant of the loop that credits: the first g generators are done.
+  pub record Crediting (g : ℕ) (balance charge : List ℕ) : Type 0 where
+    pub balance-is : Filling 8 creditAt old g balance
+    pub charge-is : Filling 8 chargeAt (replicate 8 0) g charge
+
+  pub credit-start : length old ≡ 8 → Crediting 0 old (replicate 8 0)
+  credit-start z = record { balance-is = fill-start z; charge-is = fill-start refl }
+
+  pub credit-step : {g due : ℕ} {balance charge : List ℕ} → Crediting g balance charge → g < 8 → due ≡ portionUp (getD pending g 0) rate →
+      Crediting (g + 1) (set balance g (getD balance g 0 + (getD pending g 0 - due))) (set charge g due)
+  unfolding creditAt chargeAt
+  credit-step {g} {due} {balance} {charge} h l e =
+      let p = place-in 8 pending g l in
+      let d : due ≡ chargeAt g = rw p e in
+      record {
+        balance-is = fill-step (h .balance-is) l (cc (p, place-in 8 old g l, fill-here (h .balance-is)));
+        charge-is = fill-step (h .charge-is) l d;
+      }
+
+  pub credit-done : {g : ℕ} {balance charge : List ℕ} → Crediting g balance charge → 8 ≤ g →
+      _≡_ {A = Credit} (record { bank = record { balance = balance }; charge = charge }) (creditOf (record { balance = old }) pending rate)
+  unfolding creditOf creditAt chargeAt
+  credit-done h l =
+      let e = fill-done (h .balance-is) l in
+      let f = fill-done (h .charge-is) l in
+      λ i. record { bank = record { balance = e i }; charge = f i }
+
+  -- the next generator's figures are moderate, and its charge is within its pending
+  module _ (ready : Creditable (record { balance = old }) pending rate) where
+    pub credit-moderate : {g : ℕ} {balance charge : List ℕ} → Crediting g balance charge → g < 8 → getD balance g 0 + getD pending g 0 ≤ 2_000_000_000_000_000
+    credit-moderate {g} h l = omega (arith, ready .moderate g l, place-in 8 old g l, place-in 8 pending g l, fill-here (h .balance-is))
+
+    pub credit-exact : {due : ℕ} (g : ℕ) → due ≡ portionUp (getD pending g 0) rate → due ≤ getD pending g 0
+    credit-exact g e = omega (arith, portion-le (getD pending g 0) rate (omega (arith, ready .rate-high)))
+
+-- ---- step 2, for one consumer
+
+pub draw-is : (x : Bank) (p : ℕ → Bool) (want : ℕ) {all some gs : List ℕ} {s : Settled} → all ≡ gs → some ≡ only p all →
+    s ≡ settled some (x .balance) want → _≡_ {A = Draw} (record { bank = record { balance = s .rest }; drawn = s .taken; left = s .left }) (drawOf x (only p gs) want)
+unfolding drawOf settled settledBy
+draw-is x p want {all} {some} {gs} {s} e f q =
+    let r = q ∙ ap (λ (l : List ℕ). settled l (x .balance) want) (f ∙ ap (only p) e) in
+    λ i. record { bank = record { balance = r i .rest }; drawn = r i .taken; left = r i .left }
+
+-- a bank made by a rule is drawn on by that rule
+pub drawn-by-rule : (x : Bank) (f : ℕ → ℕ) (gs : List ℕ) (want : ℕ) → Below 8 gs → x .balance ≡ table 8 f →
+    drawOf x gs want ≡ record { bank = record { balance = table 8 (kept gs f want) }; drawn = table 8 (given gs f want); left = unmet gs f want }
+unfolding drawOf settled settledBy
+drawn-by-rule x f gs want b e =
+    let r = ap (λ (l : List ℕ). settled gs l want) e ∙ settled-table gs f want b in
+    λ i. record { bank = record { balance = r i .rest }; drawn = r i .taken; left = r i .left }
+
+-- ---- step 4
+
+zeros : replicate {A = ℕ} 8 0 ≡ table 8 (λ g. 0)
+unfolding table
+zeros = refl
+
+module _ (x : Bank) (ends : Bool) (size : length (x .balance) ≡ 8) where
+  pub lapse-all : ends ≡ true → _≡_ {A = Lapse} (record { bank = record { balance = replicate 8 0 }; lapsed = x .balance }) (lapseOf x ends)
+  unfolding lapseOf
+  lapse-all t = rw t (λ i. record { bank = record { balance = zeros i }; lapsed = balances (x .balance) size i })
+
+  pub lapse-none : ends ≡ false → _≡_ {A = Lapse} (record { bank = x; lapsed = replicate 8 0 }) (lapseOf x ends)
+  unfolding lapseOf
+  lapse-none t = rw t (λ i. record { bank = record { balance = balances (x .balance) size i }; lapsed = zeros i })
