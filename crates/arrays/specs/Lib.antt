@@ -4,3 +4,4 @@ pub mod Put
 pub mod PutLaws
 pub mod Written
 pub mod Rows
+pub mod Columns

@@ -20,7 +20,7 @@ use Rattle.bank.specs.declared.Draw.{Draw}
 use Rattle.bank.specs.declared.Drawing.{Drawing}
 use Rattle.bank.specs.Arrays.{drawOf, drawingOf}
 use Rattle.bank.specs.BankLaws.{balances, drawn-by-rule}
-use Rattle.bank.specs.Columns.{Put, Columns, columns-start, columns-step, columns-pairs}
+use Rattle.arrays.specs.Columns.{ColumnPut, Columns, columns-start, columns-step, columns-pairs}
 
 -- what a sound record gives: nobody beyond the m consumers wants anything
 pub record Drawable (n m : ℕ) (outstanding : List ℕ) : Type 0 where
@@ -49,7 +49,7 @@ module _ (p : Plan) (has want : ℕ → ℕ) where
     pub supplied-is : Filling 16 (missingAt p has want) (replicate 16 0) c supplied
 
   pub drawing-step : {c open′ : ℕ} {left : Bank} {drawn drawn′ supplied : List ℕ} {d : Draw} → p .G ≤ 8 → c < 16 → Drawn c left drawn supplied → open′ ≡ want c →
-      d ≡ drawOf left (suppliers p c) open′ → Put drawn c (d .drawn) 8 drawn′ → Drawn (c + 1) (d .bank) drawn′ (set supplied c (d .left))
+      d ≡ drawOf left (suppliers p c) open′ → ColumnPut drawn c (d .drawn) 8 drawn′ → Drawn (c + 1) (d .bank) drawn′ (set supplied c (d .left))
   unfolding stockAt drawnAt missingAt
   drawing-step {c} {open′} {left} {drawn} {drawn′} {supplied} {d} few l h w e put =
       let gs = suppliers p c in

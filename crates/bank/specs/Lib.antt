@@ -3,6 +3,5 @@ pub mod Closing
 pub mod ClosingLaws
 pub mod ClosingOutput
 pub mod Arrays
-pub mod Columns
 pub mod BankLaws
 pub mod DrawingLaws

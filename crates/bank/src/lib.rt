@@ -6,7 +6,6 @@ ghost use lib.ListN.{length};
 ghost use Rattle.lists.specs.Pairs.{cell};
 ghost use Rattle.order.specs.Order.{inOrder, only};
 ghost use Rattle.bank.specs.Arrays.{Creditable, creditOf, drawOf, drawingOf, lapseOf, linkPlan};
-ghost use Rattle.bank.specs.Columns.{Put};
 ghost use Rattle.bank.specs.DrawingLaws.{Drawable};
 use energy::Wh;
 
@@ -105,17 +104,6 @@ impl Bank {
     }
 }
 
-fn put(m: &mut [u64; 128], c: usize, xs: [u64; 8])
-    requires { ⌜ (c < 16) × (length (now m) ≡ 128) ⌝ }
-    ensures { λ r. ⌜ Put (now (m .entry)) c xs 8 (now (m .exit)) ⌝ }
-{
-    let mut g: usize = 0;
-    while g < 8 {
-        m[g * 16 + c] = xs[g];
-        g += 1;
-    }
-}
-
 // Steps 2 and 3: consumers 1 to m draw one after the other. The columns and places from m on stay the zeros that they are made with.
 pub fn draw_all(
     bank: Bank,
@@ -135,7 +123,7 @@ pub fn draw_all(
     while c < m {
         let turn = left.draw(n, rank, link, c, outstanding[c]);
         let column = turn.drawn;
-        put(&mut drawn, c, column);
+        arrays::put_column(&mut drawn, c, column);
         supplied[c] = turn.left;
         let next = turn.bank;
         left = next;

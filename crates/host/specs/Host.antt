@@ -1,6 +1,6 @@
 -- The calls on a record that the host keeps as 5,752 bytes (document 01, "The record"). Assumes nothing.
 use Prim.Native.Nat.{ℕ}
-use mathlib.Core.List.{List, []}
+use mathlib.Core.List.{List}
 use mathlib.Core.Path.{_≡_}
 use lib.Dec.{eqb}
 use lib.ListN.{length}
@@ -12,6 +12,7 @@ use Rattle.record.specs.declared.Answer.{Answer}
 use Rattle.agreement.specs.Opening.{Opening, Opened}
 use Rattle.agreement.specs.Schedule.{Scheduled}
 use Rattle.block.specs.Block.{Blocked}
+use Rattle.bank.specs.Closing.{Closed}
 
 abbrev pub recordBytes : ℕ
 recordBytes = 5_752
@@ -43,4 +44,8 @@ pub record HostScheduled (bytes kws ranks : List ℕ) (number : ℕ) (bytes′ :
 
 pub record HostBlocked (bytes entry exit lent : List ℕ) (number : ℕ) (bytes′ out′ : List ℕ) : Type 0 where
   pub whole : length bytes ≡ recordBytes → (a : Answer) × (Blocked (recordIn bytes) entry exit lent a out′ × Stored a bytes number bytes′)
+  pub other : (length bytes ≡ recordBytes → ⊥) → Unread bytes 1 number bytes′ × (out′ ≡ lent)
+
+pub record HostClosed (bytes lent : List ℕ) (number : ℕ) (bytes′ out′ : List ℕ) : Type 0 where
+  pub whole : length bytes ≡ recordBytes → (a : Answer) × (Closed (recordIn bytes) lent a out′ × Stored a bytes number bytes′)
   pub other : (length bytes ≡ recordBytes → ⊥) → Unread bytes 1 number bytes′ × (out′ ≡ lent)

@@ -1,7 +1,7 @@
 -- How the calls on bytes follow from those on records. Assumes nothing.
 use Prim.Native.Nat.{ℕ}
 use mathlib.Core.List.{List}
-use mathlib.Core.Path.{_≡_, refl, _∙_, sym, subst}
+use mathlib.Core.Path.{_≡_, refl, sym, subst}
 use lib.Dec.{eqb}
 use lib.ListN.{length}
 use borrow.Author.Tests.{eq-eqb, ne-eqb}
@@ -13,7 +13,8 @@ use Rattle.record.specs.declared.Answer.{Answer}
 use Rattle.agreement.specs.Opening.{Opening, Opened}
 use Rattle.agreement.specs.Schedule.{Scheduled}
 use Rattle.block.specs.Block.{Blocked}
-use Rattle.host.specs.Host.{recordBytes, recordIn, bytesAfter, Stored, Unread, HostOpened, HostScheduled, HostBlocked}
+use Rattle.bank.specs.Closing.{Closed}
+use Rattle.host.specs.Host.{recordBytes, recordIn, bytesAfter, Stored, Unread, HostOpened, HostScheduled, HostBlocked, HostClosed}
 
 module _ {a : Answer} {bytes : List ℕ} where
   pub stored-accepted : {bytes′ : List ℕ} → a .number ≡ 0 → bytes′ ≡ encode 8 (words (a .after)) → Stored a bytes 0 bytes′
@@ -44,3 +45,10 @@ module _ {bytes : List ℕ} where
 
   pub blocked-other : {entry exit lent : List ℕ} → (length bytes ≡ recordBytes → ⊥) → HostBlocked bytes entry exit lent 1 bytes lent
   blocked-other ne = record { whole = λ l. absurd (ne l); other = λ _. (record { number-is = refl; bytes-are = refl }, refl) }
+
+  pub closed-whole : {lent : List ℕ} {r : Record} {a : Answer} {n : ℕ} {bytes′ out′ : List ℕ} → length bytes ≡ recordBytes → r ≡ recordOf (decode 8 719 bytes) → Closed r lent a out′ → Stored a bytes n bytes′ → HostClosed bytes lent n bytes′ out′
+  unfolding recordIn
+  closed-whole {lent} {a = a} {out′ = out′} l e p s = record { whole = λ _. (a, (subst (λ (x : Record). Closed x lent a out′) e p, s)); other = λ ne. absurd (ne l) }
+
+  pub closed-other : {lent : List ℕ} → (length bytes ≡ recordBytes → ⊥) → HostClosed bytes lent 1 bytes lent
+  closed-other ne = record { whole = λ l. absurd (ne l); other = λ _. (record { number-is = refl; bytes-are = refl }, refl) }

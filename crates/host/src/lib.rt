@@ -2,7 +2,7 @@
 ghost use mathlib.Core.Path.{_≡_};
 ghost use lib.ListN.{length};
 ghost use Rattle.agreement.specs.Refusing.{asked};
-ghost use Rattle.host.specs.Host.{Stored, HostOpened, HostScheduled, HostBlocked};
+ghost use Rattle.host.specs.Host.{Stored, HostOpened, HostScheduled, HostBlocked, HostClosed};
 
 // Stores the record of an accepted call.
 fn keep(a: record::Answer, bytes: &mut [u8]) -> u32
@@ -65,6 +65,18 @@ pub extern "C" fn host_block(bytes: &mut [u8], entry: &[u32], exit: &[u32], out:
     if bytes.len() == 5752 {
         let r = layout::load(bytes);
         let a = block::block(r, entry, exit, out);
+        return keep(a, bytes);
+    }
+    1
+}
+
+#[no_mangle]
+pub extern "C" fn host_close(bytes: &mut [u8], out: &mut [u64]) -> u32
+    ensures { λ r. ⌜ HostClosed (now (bytes .entry)) (now (out .entry)) r (now (bytes .exit)) (now (out .exit)) ⌝ }
+{
+    if bytes.len() == 5752 {
+        let r = layout::load(bytes);
+        let a = closing::close(r, out);
         return keep(a, bytes);
     }
     1

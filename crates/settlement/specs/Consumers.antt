@@ -13,7 +13,7 @@ use Rattle.order.specs.declared.Settled.{Settled}
 use Rattle.delivery.specs.declared.Delivered.{Delivered}
 use Rattle.settlement.specs.declared.Share.{Share}
 use Rattle.settlement.specs.declared.Lists.{Lists}
-use Rattle.settlement.specs.Columns.{Put, Columns, columns-start, columns-step}
+use Rattle.arrays.specs.Columns.{ColumnPut, Columns, columns-start, columns-step}
 
 -- n generators; d is what is delivered and gap how much less that is than what is scheduled at exit, both by pair
 module _ (n : ℕ) (rank d gap : ℕ → ℕ → ℕ) where
@@ -87,7 +87,7 @@ module _ (n : ℕ) (rank : ℕ → ℕ → ℕ) (v : Delivered) (R : ℕ → ℕ
 
   pub all-step : {c r : ℕ} {out : Lists} {h : Share} {s u f : List ℕ} → AllSettled c out → c < 16 → r ≡ R c →
       h ≡ shareOf n rank d gap c r →
-      Put (out .setoff) c (h .setoff) 8 s → Put (out .underdrawn) c (h .underdrawn) 8 u → Put (out .shortfall) c (h .shortfall) 8 f →
+      ColumnPut (out .setoff) c (h .setoff) 8 s → ColumnPut (out .underdrawn) c (h .underdrawn) 8 u → ColumnPut (out .shortfall) c (h .shortfall) 8 f →
       AllSettled (c + 1) (record { loss = out .loss; setoff = s; underdrawn = u; shortfall = f; unaccounted = out .unaccounted; remainder = set (out .remainder) c (h .remainder) })
   unfolding shareOf
   all-step {c} {r} {out} {h} {s} {u} {f} i l q e x y z =

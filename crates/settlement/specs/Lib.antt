@@ -1,7 +1,6 @@
 pub mod Settlement
 pub mod SettlementLaws
 pub mod Arrays
-pub mod Columns
 pub mod Consumers
 pub mod Beyond
 pub mod ListsLaws

@@ -18,7 +18,7 @@ use Rattle.settlement.specs.declared.Lists.{Lists}
 use Rattle.settlement.specs.Settlement.{setOff, afterSetOff, underdrawn, shortfall, remainder}
 use Rattle.settlement.specs.Arrays.{listsOf, Settleable}
 use Rattle.settlement.specs.Beyond.{delivered-beyond, gap-beyond, setOff-beyond, underdrawn-beyond, shortfall-beyond, remainder-beyond}
-use Rattle.settlement.specs.Columns.{Columns, columns-pairs}
+use Rattle.arrays.specs.Columns.{Columns, columns-pairs}
 use Rattle.settlement.specs.Consumers.{turns, takenOf, keptOf, leftOf, shortOf, remainsOf, AllSettled}
 
 -- rules 1 to 4 look at no rank

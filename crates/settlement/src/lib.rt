@@ -6,7 +6,6 @@ ghost use Rattle.lists.specs.Tables.{table};
 ghost use Rattle.lists.specs.Pairs.{place, cell};
 ghost use Rattle.delivery.specs.Arrays.{planFrom};
 ghost use Rattle.settlement.specs.Arrays.{listsOf, Settleable};
-ghost use Rattle.settlement.specs.Columns.{Put};
 ghost use Rattle.settlement.specs.Consumers.{shareOf, AllSettled};
 use delivery::Delivered;
 
@@ -28,30 +27,6 @@ struct Share {
     remainder: u64,
 }
 
-fn column(m: &[u64; 128], c: usize) -> [u64; 8]
-    requires { ⌜ c < 16 ⌝ }
-    ensures { λ r. ⌜ r ≡ table 8 (λ g. cell 8 16 (now (m .entry)) g c) ⌝ }
-{
-    let mut out = [0u64; 8];
-    let mut g: usize = 0;
-    while g < 8 {
-        out[g] = m[g * 16 + c];
-        g += 1;
-    }
-    out
-}
-
-fn put(m: &mut [u64; 128], c: usize, xs: [u64; 8])
-    requires { ⌜ (c < 16) × (length (now m) ≡ 128) ⌝ }
-    ensures { λ r. ⌜ Put (now (m .entry)) c xs 8 (now (m .exit)) ⌝ }
-{
-    let mut g: usize = 0;
-    while g < 8 {
-        m[g * 16 + c] = xs[g];
-        g += 1;
-    }
-}
-
 // Rules 5 to 7 for consumer c, whose exit reading is `read`.
 fn settle_one(
     n: usize,
@@ -65,9 +40,9 @@ fn settle_one(
     ensures { λ r. ⌜ r ≡ shareOf n (cell 8 16 (now (rank .entry))) (cell 8 16 (now (delivered .entry))) (cell 8 16 (now (gap .entry))) c read ⌝ }
 {
     let turns = order::in_order(rank, c, n);
-    let has = column(delivered, c);
+    let has = arrays::column(delivered, c);
     let first = order::settle(turns, n, has, read);
-    let more = column(gap, c);
+    let more = arrays::column(gap, c);
     let second = order::settle(turns, n, more, first.left);
     let setoff = first.taken;
     let underdrawn = first.rest;
@@ -103,11 +78,11 @@ fn settle_all(n: usize, m: usize, rank: &[u64; 128], figures: Delivered, exit: [
     while c < m {
         let share = settle_one(n, rank, &delivered, &gap, c, lists::wide(exit[c]));
         let taken = share.setoff;
-        put(&mut out.setoff, c, taken);
+        arrays::put_column(&mut out.setoff, c, taken);
         let kept = share.underdrawn;
-        put(&mut out.underdrawn, c, kept);
+        arrays::put_column(&mut out.underdrawn, c, kept);
         let short = share.shortfall;
-        put(&mut out.shortfall, c, short);
+        arrays::put_column(&mut out.shortfall, c, short);
         out.remainder[c] = share.remainder;
         c += 1;
     }

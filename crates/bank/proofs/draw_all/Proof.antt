@@ -30,8 +30,8 @@ array-read-draw c = search needs
 draw-requires : tie.Need-draw-requires Inv-loop μ-loop
 draw-requires c κs = search needs
 
-put-requires : tie.Need-put-requires Inv-loop μ-loop
-put-requires c κs = search needs
+put-column-requires : tie.Need-put-column-requires Inv-loop μ-loop
+put-column-requires c κs = search needs
 
 mul-supplied : tie.Need-mul-supplied Inv-loop μ-loop
 mul-supplied c = search needs
@@ -53,7 +53,7 @@ loop-again c =
     let l = turn .before .loop in
     let s = turn .before .before in
     let b : l .c < 16 = omega (arith, turn .loop-test .taken, s .pre .C-high) in (
-      drawing-step (linkPlan (s .args .n) (s .args .m) (s .args .rank .now) (s .args .link .now)) _ _ (s .pre .G-high) b (l .inv .0) (sym (place-in 16 _ _ b)) (drew .draw .ensures) (c .before .put .ensures),
+      drawing-step (linkPlan (s .args .n) (s .args .m) (s .args .rank .now) (s .args .link .now)) _ _ (s .pre .G-high) b (l .inv .0) (sym (place-in 16 _ _ b)) (drew .draw .ensures) (c .before .put-column .ensures),
       omega (arith, turn .loop-test .taken),
     )
 
@@ -75,7 +75,7 @@ draw-all-spec =
     mul-draw
     array-read-draw
     draw-requires
-    put-requires
+    put-column-requires
     mul-supplied
     array-write-supplied
     add-c

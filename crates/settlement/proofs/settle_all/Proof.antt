@@ -32,14 +32,14 @@ wide-requires c κs = search needs
 settle-one-requires : tie.Need-settle-one-requires Inv-loop μ-loop
 settle-one-requires c κs = search needs
 
-put-requires : tie.Need-put-requires Inv-loop μ-loop
-put-requires c κs = search needs
+put-column-requires : tie.Need-put-column-requires Inv-loop μ-loop
+put-column-requires c κs = search needs
 
-put-requires-2 : tie.Need-put-requires-2 Inv-loop μ-loop
-put-requires-2 c κs = search needs
+put-column-requires-2 : tie.Need-put-column-requires-2 Inv-loop μ-loop
+put-column-requires-2 c κs = search needs
 
-put-requires-3 : tie.Need-put-requires-3 Inv-loop μ-loop
-put-requires-3 c κs = search needs
+put-column-requires-3 : tie.Need-put-column-requires-3 Inv-loop μ-loop
+put-column-requires-3 c κs = search needs
 
 mul-out : tie.Need-mul-out Inv-loop μ-loop
 mul-out c = search needs
@@ -62,7 +62,7 @@ loop-again c =
     let l = turn .before .loop in
     let b : l .c < 16 = omega (arith, turn .loop-test .taken, turn .before .before .before .before .before .before .pre .1) in
     let read = one .before .wide .ensures ∙ sym (place-in 16 _ _ b) in (
-      all-step _ _ _ _ (l .inv .0) b read (one .«settle-one» .ensures) (first .put .ensures) (second .put2 .ensures) (c .put3 .ensures),
+      all-step _ _ _ _ (l .inv .0) b read (one .«settle-one» .ensures) (first .put-column .ensures) (second .put-column2 .ensures) (c .put-column3 .ensures),
       omega (arith, turn .loop-test .taken),
     )
 
@@ -83,9 +83,9 @@ settle-all-spec =
     array-read-wide
     wide-requires
     settle-one-requires
-    put-requires
-    put-requires-2
-    put-requires-3
+    put-column-requires
+    put-column-requires-2
+    put-column-requires-3
     mul-out
     element-write-out
     add-c

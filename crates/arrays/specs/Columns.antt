@@ -12,15 +12,15 @@ use Rattle.lists.specs.Pairs.{pairs}
 use Rattle.lists.specs.PairsLaws.{pairs-table}
 
 -- m′ is m with the first k numbers of xs in column c
-pub record Put (m : List ℕ) (c : ℕ) (xs : List ℕ) (k : ℕ) (m′ : List ℕ) : Type 0 where
+pub record ColumnPut (m : List ℕ) (c : ℕ) (xs : List ℕ) (k : ℕ) (m′ : List ℕ) : Type 0 where
   pub size : length m′ ≡ 128
   pub here : (g : ℕ) → g < k → getD m′ (g * 16 + c) 0 ≡ getD xs g 0
   pub other : (g x : ℕ) → g < 8 → x < 16 → (x ≡ c → ⊥) → getD m′ (g * 16 + x) 0 ≡ getD m (g * 16 + x) 0
 
-pub put-start : {m : List ℕ} {c : ℕ} {xs : List ℕ} → length m ≡ 128 → Put m c xs 0 m
+pub put-start : {m : List ℕ} {c : ℕ} {xs : List ℕ} → length m ≡ 128 → ColumnPut m c xs 0 m
 put-start {m} {c} {xs} z = record { size = z; here = λ g l. absurd (omega arith); other = λ g x l b e. refl }
 
-pub put-step : {m m′ : List ℕ} {c : ℕ} {xs : List ℕ} {k v : ℕ} → Put m c xs k m′ → c < 16 → k < 8 → v ≡ getD xs k 0 → Put m c xs (k + 1) (set m′ (k * 16 + c) v)
+pub put-step : {m m′ : List ℕ} {c : ℕ} {xs : List ℕ} {k v : ℕ} → ColumnPut m c xs k m′ → c < 16 → k < 8 → v ≡ getD xs k 0 → ColumnPut m c xs (k + 1) (set m′ (k * 16 + c) v)
 put-step {m} {m′} {c} {xs} {k} {v} h a b e =
     record {
       size = length-set m′ (k * 16 + c) v ∙ h .size;
@@ -48,7 +48,7 @@ pub columns-start : {f : ℕ → ℕ → ℕ} → Columns f 0 (replicate 128 0)
 columns-start {f} =
     record { size = length-replicate {A = ℕ} 128 0; done = λ g x l b. absurd (omega arith); later = λ g x l b w. zeros-at 128 (g * 16 + x) }
 
-pub columns-step : {f : ℕ → ℕ → ℕ} {m m′ : List ℕ} {c : ℕ} {xs : List ℕ} → Columns f c m → c < 16 → Put m c xs 8 m′ → xs ≡ table 8 (λ g. f g c) → Columns f (c + 1) m′
+pub columns-step : {f : ℕ → ℕ → ℕ} {m m′ : List ℕ} {c : ℕ} {xs : List ℕ} → Columns f c m → c < 16 → ColumnPut m c xs 8 m′ → xs ≡ table 8 (λ g. f g c) → Columns f (c + 1) m′
 columns-step {f} {m} {m′} {c} {xs} h a p e =
     record {
       size = p .size;

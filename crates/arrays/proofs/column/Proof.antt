@@ -1,12 +1,12 @@
--- `settlement::column` meets its contract: g places of the column are copied. Assumes nothing.
+-- `arrays::column` meets its contract: g places of the column are copied. Assumes nothing.
 use Prim.Native.Nat.{_-_}
 use mathlib.Core.Path.{sym}
 use borrow.Author.Needs.{needs}
 use Rattle.lists.specs.PairsLaws.{cell-in}
 use Rattle.lists.specs.Pairs.{cell}
 use Rattle.lists.specs.Tables.{Filling, fill-start, fill-step, fill-done}
-use Rattle.settlement.proofs.column.Statement.{statement}
-use Rattle.settlement.proofs.column.Tie as tie
+use Rattle.arrays.proofs.column.Statement.{statement}
+use Rattle.arrays.proofs.column.Tie as tie
 
 abbrev Inv-loop : tie.InvT-loop
 Inv-loop m c out₀ g₀ out g = Filling 8 (λ h. cell 8 16 m h c) out₀ g out

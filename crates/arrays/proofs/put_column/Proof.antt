@@ -1,14 +1,14 @@
--- `settlement::put` meets its contract: g places of the column are written. Assumes nothing.
+-- `arrays::put_column` meets its contract: g places of the column are written. Assumes nothing.
 use Prim.Native.Nat.{_-_, _≤_}
 use mathlib.Core.Path.{_≡_, refl}
 use native.Mathlib.Omega.{arith}
 use borrow.Author.Needs.{needs}
-use Rattle.settlement.specs.Columns.{Put, put-start, put-step}
-use Rattle.settlement.proofs.put.Statement.{statement}
-use Rattle.settlement.proofs.put.Tie as tie
+use Rattle.arrays.specs.Columns.{ColumnPut, put-start, put-step}
+use Rattle.arrays.proofs.put_column.Statement.{statement}
+use Rattle.arrays.proofs.put_column.Tie as tie
 
 abbrev Inv-loop : tie.InvT-loop
-Inv-loop m₀ c xs g₀ m g = Put m₀ c xs g m × (g ≤ 8)
+Inv-loop m₀ c xs g₀ m g = ColumnPut m₀ c xs g m × (g ≤ 8)
 
 abbrev μ-loop : tie.MeasureT-loop
 μ-loop m₀ c xs g₀ m g = 8 - g
@@ -46,8 +46,8 @@ loop-again c = (put-step (c .before .loop .inv .0) (search needs) (search needs)
 returns : tie.Need-returns Inv-loop μ-loop
 returns c = let l = c .before .loop in let e : l .g ≡ 8 = omega arith in rw e at (l .inv .0)
 
-pub put-spec : {M : Type 1} → statement M
-put-spec =
+pub put-column-spec : {M : Type 1} → statement M
+put-column-spec =
     tie.close
     (tie.spec
     Inv-loop

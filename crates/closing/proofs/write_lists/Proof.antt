@@ -1,0 +1,85 @@
+-- `closing::write_lists` meets its contract: six lists stand one after the other in the slice.
+use Prim.Native.Nat.{ℕ, _+_, _*_}
+use mathlib.Core.Path.{_≡_, refl, sym, _∙_}
+use native.Mathlib.Nat.{zero-add}
+use native.Mathlib.Omega.{arith}
+use Rattle.arrays.specs.Written.{written-none, written-put, written-all}
+use Rattle.closing.specs.Output.{sixLists}
+use borrow.Author.Needs.{needs}
+use Rattle.closing.proofs.write_lists.Statement.{statement}
+use Rattle.closing.proofs.write_lists.Tie as tie
+
+mul-size : tie.Need-mul-size
+mul-size c = search needs
+
+add-second : tie.Need-add-second
+add-second c = search needs
+
+add-third : tie.Need-add-third
+add-third c = search needs
+
+add-fourth : tie.Need-add-fourth
+add-fourth c = search needs
+
+add-last : tie.Need-add-last
+add-last c = search needs
+
+put-pairs-requires : tie.Need-put-pairs-requires
+put-pairs-requires c κs = search needs
+
+put8-requires : tie.Need-put8-requires
+put8-requires c κs = search needs
+
+put8-requires-2 : tie.Need-put8-requires-2
+put8-requires-2 c κs = search needs
+
+put8-requires-3 : tie.Need-put8-requires-3
+put8-requires-3 c κs = search needs
+
+put16-requires : tie.Need-put16-requires
+put16-requires c κs = search needs
+
+put16-requires-2 : tie.Need-put16-requires-2
+put16-requires-2 c κs = search needs
+
+same-length : tie.Need-same-length
+same-length c = search needs
+
+one-by-one : (k n m : ℕ) → k + 3 * n + 2 * m ≡ k + n + n + n + m + m
+one-by-one k n m = omega arith
+
+returns : tie.Need-returns
+unfolding sixLists
+returns c =
+    let c₆ = c .before .before in
+    let c₅ = c₆ .before .before .before .before .before in
+    let c₄ = c₅ .before .before .before .before .before in
+    let c₃ = c₄ .before .before .before .before .before in
+    let c₂ = c₃ .before .before .before .before .before in
+    let c₁ = c₂ .before .before .before .before .before in
+    let s = c₁ .before .before .before in
+    let w₁ = written-put (written-none (s .args .out .now)) (c₁ .put-pairs .ensures) refl in
+    let w₂ = written-put w₁ (c₂ .put8 .ensures) (sym (zero-add _)) in
+    let w₃ = written-put w₂ (c₃ .put82 .ensures) refl in
+    let w₄ = written-put w₃ (c₄ .put83 .ensures) refl in
+    let w₅ = written-put w₄ (c₅ .put16 .ensures) refl in
+    let w₆ = written-put w₅ (c₆ .put162 .ensures) refl in
+    written-all w₆ (s .pre .size ∙ one-by-one (s .args .n * s .args .m) (s .args .n) (s .args .m))
+
+pub write-lists-spec : {M : Type 1} → statement M
+write-lists-spec =
+    tie.close
+    (tie.spec
+    mul-size
+    add-second
+    add-third
+    add-fourth
+    add-last
+    put-pairs-requires
+    put8-requires
+    put8-requires-2
+    put8-requires-3
+    put16-requires
+    put16-requires-2
+    same-length
+    returns)

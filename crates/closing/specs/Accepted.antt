@@ -1,0 +1,99 @@
+-- What an accepted closing may rely on, and that its steps make up the call. Assumes nothing.
+use Prim.Native.Nat.{ℕ, _+_, _*_, _≤_}
+use mathlib.Core.Path.{_≡_, sym, ap, _∙_}
+use mathlib.Core.List.{List}
+use native.Mathlib.Omega.{arith}
+use lib.ListN.{length}
+use Rattle.record.specs.Book.{noConsumption}
+use Rattle.record.specs.Stored.{generatorAt, consumerAt, planOf, figures, stored}
+use Rattle.record.specs.SoundLaws.{Facts, injected-most, con-beyond}
+use Rattle.record.specs.Shape.{Shape}
+use Rattle.record.specs.Called.{numberOn}
+use Rattle.record.specs.CalledLaws.{accepted-sound, number-sound, record-facts, record-accepted, record-refused, output-accepted, output-refused}
+use Rattle.record.specs.declared.ConsumerTerms.{ConsumerTerms}
+use Rattle.record.specs.declared.Record.{Record}
+use Rattle.bank.specs.Closing.{afterClosing, closingOutput, closingLength, closingRule, Closed}
+use Rattle.closing.specs.Refusals.{accepted-size}
+use Rattle.closing.specs.Month.{monthIn, monthOf, Closable, month-is}
+use Rattle.closing.specs.Totals.{RecordRoom, recordAfterClosing}
+use Rattle.closing.specs.TotalsLaws.{record-is}
+use Rattle.closing.specs.RoomLaws.{generators-room, consumers-room}
+use Rattle.closing.specs.Output.{monthWritten, output-is}
+use Rattle.closing.specs.declared.Month.{Month}
+
+module _ (r : Record) (size : ℕ) (z : numberOn (closingRule size) r ≡ 0) where
+  facts : Facts (figures r)
+  facts = record-facts r (accepted-sound (closingRule size) r z)
+
+  pub generators-few : r .terms .generators ≤ 8
+  unfolding figures planOf
+  generators-few = facts .counts .G-high
+
+  pub consumers-few : r .terms .consumers ≤ 16
+  unfolding figures planOf
+  consumers-few = facts .counts .C-high
+
+  gone-few : r .counts .gone ≤ 12
+  unfolding figures
+  gone-few = omega (arith, facts .counts .gone-high, facts .counts .cycle-high)
+
+  pub output-size : size ≡ r .terms .generators * r .terms .consumers + 3 * r .terms .generators + 2 * r .terms .consumers
+  unfolding figures planOf closingLength closingRule
+  output-size = accepted-size (figures r) size (sym (number-sound (closingRule size) r (accepted-sound (closingRule size) r z)) ∙ z)
+
+  pub closable : Closable r
+  unfolding figures planOf generatorAt consumerAt noConsumption
+  closable =
+      record {
+        creditable = record { moderate = λ g l. omega (arith, facts .gen g .equation, injected-most (figures r) facts g); rate-high = facts .counts .rate-high };
+        drawable =
+            record {
+              G-high = generators-few;
+              C-high = consumers-few;
+              beyond = λ c h. ap (λ (x : ConsumerTerms). x .outstanding) (con-beyond (figures r) facts c h);
+            };
+        gone-few = gone-few;
+      }
+
+  -- x is what the steps gave
+  module _ (x : Month) (x-is : x ≡ monthIn r) where
+    by-figures : x ≡ monthOf (figures r)
+    by-figures = x-is ∙ month-is r
+
+    pub record-room : RecordRoom r x
+    record-room =
+        record {
+          generators-few = generators-few;
+          consumers-few = consumers-few;
+          gone-few = gone-few;
+          generators-room = rw by-figures (generators-room r facts);
+          consumers-room = rw by-figures (consumers-room r facts);
+        }
+
+    pub record-after : Shape r → recordAfterClosing r x ≡ stored (afterClosing (figures r))
+    record-after s = ap (recordAfterClosing r) by-figures ∙ record-is r facts s
+
+    pub output-after : monthWritten x (r .consumers .outstanding) (r .terms .generators) (r .terms .consumers) ≡ closingOutput (figures r)
+    output-after =
+        ap (λ (y : Month). monthWritten y (r .consumers .outstanding) (r .terms .generators) (r .terms .consumers)) by-figures ∙ output-is r generators-few consumers-few
+
+-- what an accepted closing makes of the record, and leaves in the slice
+pub record MonthClosed (r a : Record) (out : List ℕ) : Type 0 where
+  pub record-is : a ≡ stored (afterClosing (figures r))
+  pub output-is : out ≡ closingOutput (figures r)
+
+-- ---- the call, accepted and refused
+
+module _ (r : Record) (lent : List ℕ) where
+  pub close-accepted : {out : List ℕ} {a : Record} → numberOn (closingRule (length lent)) r ≡ 0 →
+      MonthClosed r a out →
+      Closed r lent (record { number = 0; after = a }) out
+  unfolding closingRule
+  close-accepted z e =
+      let rule = closingRule (length lent) in
+      record { number-is = sym z; record-is = e .record-is ∙ sym (record-accepted rule r z); output-is = e .output-is ∙ sym (output-accepted rule r lent z) }
+
+  pub close-refused : {n : ℕ} → n ≡ numberOn (closingRule (length lent)) r → (n ≡ 0 → ⊥) → Closed r lent (record { number = n; after = r }) lent
+  close-refused e ne =
+      let rule = closingRule (length lent) in
+      record { number-is = e; record-is = sym (record-refused rule r (λ y. ne (e ∙ y))); output-is = sym (output-refused rule r lent (λ y. ne (e ∙ y))) }

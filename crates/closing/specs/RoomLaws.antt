@@ -1,0 +1,80 @@
+-- A closing's sums fit 64 bits on a sound record. Assumes nothing.
+use Prim.Native.Nat.{ℕ, _/_, _%_, _≤_, _<_}
+use mathlib.Core.List.{List}
+use native.Mathlib.Omega.{arith}
+use Rattle.lists.specs.Sums.{sum}
+use Rattle.lists.specs.Tables.{table-bound}
+use Rattle.lists.specs.Pairs.{place, pairs}
+use Rattle.lists.specs.PairsLaws.{pairs-table}
+use Rattle.arrays.specs.Bounds.{mostFigure, Moderate, Room}
+use Rattle.record.specs.Book.{Book}
+use Rattle.record.specs.Stored.{generatorAt, consumerAt, planOf, figures}
+use Rattle.record.specs.SoundLaws.{Facts, injected-most, metered-most}
+use Rattle.record.specs.declared.Record.{Record}
+use Rattle.bank.specs.Closing.{takenUp, charge, credited, drawn, supplied, lapsed}
+use Rattle.bank.specs.ClosingLaws.{drawn-le, generator-split, consumer-split}
+use Rattle.closing.specs.Month.{monthOf, banks-most}
+use Rattle.closing.specs.Totals.{GeneratorsRoom, ConsumersRoom}
+use Rattle.closing.specs.TotalsLaws.{at-table, at-rows, at-columns}
+
+-- a pair list of moderate figures
+moderate-pairs : (f : ℕ → ℕ → ℕ) → ((g c : ℕ) → f g c ≤ mostFigure) → Moderate (pairs 8 16 f)
+moderate-pairs f h = record { at = λ i. rw pairs-table (table-bound 128 (λ k. f (k / 16) (k % 16)) mostFigure (λ k l. h (k / 16) (k % 16)) i) }
+
+room : (n : ℕ) (xs ys : List ℕ) → ((i : ℕ) → i < n → place n xs i ≤ mostFigure) → ((i : ℕ) → i < n → place n ys i ≤ mostFigure) → Room n xs ys
+room n xs ys h k = record { at = λ i l. omega (arith, h i l, k i l) }
+
+-- what a closing enters is part of what was pending, banked or open
+module _ (b : Book) (f : Facts b) where
+  rate-low : b .rate ≤ 10_000
+  rate-low = omega (arith, f .counts .rate-high)
+
+  charge-small : (g : ℕ) → charge b g ≤ mostFigure
+  unfolding takenUp
+  charge-small g = omega (arith, generator-split b g rate-low, injected-most b f g, f .gen g .equation)
+
+  given-small : (g : ℕ) → sum (b .plan .C) (λ c. drawn b g c) ≤ mostFigure
+  unfolding takenUp
+  given-small g = omega (arith, generator-split b g rate-low, injected-most b f g, f .gen g .equation)
+
+  lapsed-small : (g : ℕ) → lapsed b g ≤ mostFigure
+  unfolding takenUp
+  lapsed-small g = omega (arith, generator-split b g rate-low, injected-most b f g, f .gen g .equation)
+
+  drawn-small : (g c : ℕ) → drawn b g c ≤ mostFigure
+  unfolding credited takenUp
+  drawn-small g c = omega (arith, drawn-le b g c, banks-most b g c, injected-most b f g, f .gen g .equation)
+
+  taken-small : (c : ℕ) → sum (b .plan .G) (λ g. drawn b g c) ≤ mostFigure
+  taken-small c = omega (arith, consumer-split b c, metered-most b f c, f .con c .equation)
+
+  supplied-small : (c : ℕ) → supplied b c ≤ mostFigure
+  supplied-small c = omega (arith, consumer-split b c, metered-most b f c, f .con c .equation)
+
+module _ (r : Record) (f : Facts (figures r)) where
+  pub generators-room : GeneratorsRoom (r .generators) (monthOf (figures r)) (r .terms .consumers)
+  unfolding monthOf figures planOf generatorAt
+  generators-room =
+      let b = figures r in
+      let x = r .generators in
+      let C = r .terms .consumers in
+      let most : (g : ℕ) → place 8 (x .injected) g ≤ mostFigure = λ g. injected-most b f g in
+      record {
+        drawn-moderate = moderate-pairs (drawn b) (drawn-small b f);
+        charge-room = room 8 (x .charge) _ (λ g l. omega (arith, most g, f .gen g .equation)) (λ g l. omega (arith, at-table 8 (charge b) g l, charge-small b f g));
+        drawn-room = room 8 (x .drawn) _ (λ g l. omega (arith, most g, f .gen g .equation)) (λ g l. omega (arith, at-rows (drawn b) C g (f .counts .C-high) l, given-small b f g));
+        lapsed-room = room 8 (x .lapsed) _ (λ g l. omega (arith, most g, f .gen g .equation)) (λ g l. omega (arith, at-table 8 (lapsed b) g l, lapsed-small b f g));
+      }
+
+  pub consumers-room : ConsumersRoom (r .consumers) (monthOf (figures r)) (r .terms .generators)
+  unfolding monthOf figures planOf consumerAt
+  consumers-room =
+      let b = figures r in
+      let x = r .consumers in
+      let G = r .terms .generators in
+      let most : (c : ℕ) → place 16 (x .metered) c ≤ mostFigure = λ c. metered-most b f c in
+      record {
+        drawn-moderate = moderate-pairs (drawn b) (drawn-small b f);
+        drawn-room = room 16 (x .drawn) _ (λ c l. omega (arith, most c, f .con c .equation)) (λ c l. omega (arith, at-columns (drawn b) G c (f .counts .G-high) l, taken-small b f c));
+        supplied-room = room 16 (x .supplied) _ (λ c l. omega (arith, most c, f .con c .equation)) (λ c l. omega (arith, at-table 16 (supplied b) c l, supplied-small b f c));
+      }

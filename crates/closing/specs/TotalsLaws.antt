@@ -1,0 +1,113 @@
+-- A closing's totals on the arrays of a record are those on its figures. Assumes nothing.
+use Prim.Native.Nat.{ℕ, _+_, _≤_, _<_}
+use mathlib.Core.Path.{_≡_, refl, sym, ap, _∙_}
+use mathlib.Core.List.{List}
+use native.Mathlib.Omega.{arith}
+use lib.ListN.{replicate}
+use Rattle.lists.specs.Sums.{sum, sum-cong}
+use Rattle.lists.specs.Tables.{table, getD-table, table-same}
+use Rattle.lists.specs.Pairs.{place, cell, pairs}
+use Rattle.lists.specs.PairsLaws.{place-in, cell-in, getD-pairs}
+use Rattle.record.specs.Stored.{generatorAt, consumerAt, planOf, figures, storedGenerators, storedConsumers, stored}
+use Rattle.record.specs.Shape.{Shape, table-place, pairs-cell}
+use Rattle.record.specs.SoundLaws.{Facts}
+use Rattle.record.specs.declared.Record.{Record}
+use Rattle.bank.specs.Closing.{charge, drawn, supplied, lapses, goneAfter, lapsed, bankAfter, generatorAfterClosing, consumerAfterClosing, afterClosing}
+use Rattle.closing.specs.Month.{monthOf}
+use Rattle.closing.specs.Totals.{added8, added16, rowSums, columnSums, monthsGone, generatorsAfter, consumersAfter, recordAfterClosing}
+
+-- ---- places of lists made here
+
+pub at-table : (n : ℕ) (f : ℕ → ℕ) (i : ℕ) → i < n → place n (table n f) i ≡ f i
+at-table n f i l = place-in n (table n f) i l ∙ getD-table n f i 0 l
+
+pub at-pairs : (f : ℕ → ℕ → ℕ) (g c : ℕ) → g < 8 → c < 16 → cell 8 16 (pairs 8 16 f) g c ≡ f g c
+at-pairs f g c l k = cell-in 8 16 (pairs 8 16 f) g c l k ∙ getD-pairs 8 16 f g c l k
+
+pub at-rows : (f : ℕ → ℕ → ℕ) (w g : ℕ) → w ≤ 16 → g < 8 → place 8 (rowSums (pairs 8 16 f) w) g ≡ sum w (λ c. f g c)
+unfolding rowSums
+at-rows f w g h l = at-table 8 (λ g. sum w (λ c. cell 8 16 (pairs 8 16 f) g c)) g l ∙ sum-cong w _ (λ c. f g c) (λ c k. at-pairs f g c l (omega arith))
+
+pub at-columns : (f : ℕ → ℕ → ℕ) (n c : ℕ) → n ≤ 8 → c < 16 → place 16 (columnSums (pairs 8 16 f) n) c ≡ sum n (λ g. f g c)
+unfolding columnSums
+at-columns f n c h l = at-table 16 (λ c. sum n (λ g. cell 8 16 (pairs 8 16 f) g c)) c l ∙ sum-cong n _ (λ g. f g c) (λ g k. at-pairs f g c (omega arith) l)
+
+plus8 : (xs ys : List ℕ) (h : ℕ → ℕ) → ((g : ℕ) → g < 8 → place 8 ys g ≡ h g) → added8 xs ys ≡ table 8 (λ g. place 8 xs g + h g)
+unfolding added8
+plus8 xs ys h e = table-same 8 _ _ (λ g l. ap (λ (y : ℕ). place 8 xs g + y) (e g l))
+
+plus16 : (xs ys : List ℕ) (h : ℕ → ℕ) → ((c : ℕ) → c < 16 → place 16 ys c ≡ h c) → added16 xs ys ≡ table 16 (λ c. place 16 xs c + h c)
+unfolding added16
+plus16 xs ys h e = table-same 16 _ _ (λ c l. ap (λ (y : ℕ). place 16 xs c + y) (e c l))
+
+zeros8 : replicate {A = ℕ} 8 0 ≡ table 8 (λ g. 0)
+unfolding table
+zeros8 = refl
+
+zeros16 : replicate {A = ℕ} 16 0 ≡ table 16 (λ c. 0)
+unfolding table
+zeros16 = refl
+
+-- ---- what a closing adds
+
+module _ (r : Record) (f : Facts (figures r)) (s : Shape r) where
+  C16 : r .terms .consumers ≤ 16
+  unfolding figures planOf
+  C16 = f .counts .C-high
+
+  G8 : r .terms .generators ≤ 8
+  unfolding figures planOf
+  G8 = f .counts .G-high
+
+  generators-are : generatorsAfter (r .generators) (monthOf (figures r)) (r .terms .consumers) ≡ storedGenerators (generatorAfterClosing (figures r))
+  unfolding generatorsAfter monthOf storedGenerators generatorAfterClosing figures generatorAt planOf
+  generators-are =
+      let x = r .generators in
+      let z = s .generators in
+      let b = figures r in
+      λ i. record {
+        injected = sym (table-place 8 (x .injected) (z .injected)) i;
+        unaccounted = sym (table-place 8 (x .unaccounted) (z .unaccounted)) i;
+        lost = sym (table-place 8 (x .lost) (z .lost)) i;
+        setoff = sym (table-place 8 (x .setoff) (z .setoff)) i;
+        inadvertent = sym (table-place 8 (x .inadvertent) (z .inadvertent)) i;
+        charge = plus8 (x .charge) (table 8 (charge b)) (charge b) (at-table 8 (charge b)) i;
+        drawn = plus8 (x .drawn) (rowSums (pairs 8 16 (drawn b)) (r .terms .consumers)) (λ g. sum (r .terms .consumers) (λ c. drawn b g c)) (λ g l. at-rows (drawn b) (r .terms .consumers) g C16 l) i;
+        lapsed = plus8 (x .lapsed) (table 8 (lapsed b)) (lapsed b) (at-table 8 (lapsed b)) i;
+        bank = table 8 (bankAfter b);
+        pending = zeros8 i;
+      }
+
+  consumers-are : consumersAfter (r .consumers) (monthOf (figures r)) (r .terms .generators) ≡ storedConsumers (consumerAfterClosing (figures r))
+  unfolding consumersAfter monthOf storedConsumers consumerAfterClosing figures consumerAt planOf
+  consumers-are =
+      let x = r .consumers in
+      let z = s .consumers in
+      let b = figures r in
+      λ i. record {
+        metered = sym (table-place 16 (x .metered) (z .metered)) i;
+        setoff = sym (table-place 16 (x .setoff) (z .setoff)) i;
+        shortfall = sym (table-place 16 (x .shortfall) (z .shortfall)) i;
+        drawn = plus16 (x .drawn) (columnSums (pairs 8 16 (drawn b)) (r .terms .generators)) (λ c. sum (r .terms .generators) (λ g. drawn b g c)) (λ c l. at-columns (drawn b) (r .terms .generators) c G8 l) i;
+        supplied = plus16 (x .supplied) (table 16 (supplied b)) (supplied b) (at-table 16 (supplied b)) i;
+        outstanding = zeros16 i;
+      }
+
+  -- the record that the code makes is the one that the rules store
+  pub record-is : recordAfterClosing r (monthOf (figures r)) ≡ stored (afterClosing (figures r))
+  unfolding recordAfterClosing monthsGone stored afterClosing goneAfter lapses figures planOf
+  record-is =
+      λ i. record {
+        terms = r .terms;
+        counts = record { gone = monthsGone (r .terms) (r .counts); blocks = r .counts .blocks; month = 0 };
+        agreed =
+            record {
+              kind = sym (table-place 8 (r .agreed .kind) (s .agreed .kind)) i;
+              installed = sym (table-place 8 (r .agreed .installed) (s .agreed .installed)) i;
+              contracted = sym (table-place 8 (r .agreed .contracted) (s .agreed .contracted)) i;
+            };
+        links = record { link = sym (pairs-cell (r .links .link) (s .links .link)) i; loss = sym (pairs-cell (r .links .loss) (s .links .loss)) i };
+        schedule = record { kw = sym (pairs-cell (r .schedule .kw) (s .schedule .kw)) i; rank = sym (pairs-cell (r .schedule .rank) (s .schedule .rank)) i };
+        generators = generators-are i;
+        consumers = consumers-are i;
+      }
