@@ -5,3 +5,5 @@ pub mod PutLaws
 pub mod Written
 pub mod Rows
 pub mod Columns
+pub mod Added
+pub mod AddedLaws

@@ -4,6 +4,7 @@ use mathlib.Core.Path.{_≡_, refl, sym, ap, _∙_}
 use mathlib.Core.List.{List, [], _∷_}
 use native.Mathlib.Omega.{arith}
 use lib.ListN.{length, getD}
+use Rattle.arrays.specs.AddedLaws.{at-pairs}
 use Rattle.lists.specs.Tables.{table, getD-table, table-same}
 use Rattle.lists.specs.Pairs.{cell, pairs, joined}
 use Rattle.arrays.specs.Written.{pairs-same, list-table}
@@ -12,7 +13,6 @@ use Rattle.delivery.specs.Delivery.{unaccounted, lossOf}
 use Rattle.settlement.specs.Settlement.{setOff, underdrawn, shortfall, remainder, blockLists, blockOutput}
 use Rattle.settlement.specs.Arrays.{listsOf}
 use Rattle.settlement.specs.declared.Lists.{Lists}
-use Rattle.block.specs.TotalsLaws.{at-pairs}
 
 -- the slice has the stated length
 pub record OutputRoom (o : List ℕ) (n m : ℕ) : Type 0 where

@@ -26,12 +26,10 @@ use Rattle.settlement.specs.Arrays.{listsOf}
 use Rattle.record.specs.Stored.{generatorAt, consumerAt, planOf, figures}
 use Rattle.record.specs.SoundLaws.{Facts, kw-most, injected-most, metered-most}
 use Rattle.record.specs.declared.Record.{Record}
-use Rattle.block.specs.Totals.{byKind, rowSums, columnSums, zeros8, GeneratorsRoom, ConsumersRoom}
-use Rattle.block.specs.TotalsLaws.{at-table, at-rows, at-columns, spilt, due, under}
-
--- a pair list of moderate figures
-moderate-pairs : (f : ℕ → ℕ → ℕ) → ((g c : ℕ) → f g c ≤ mostFigure) → Moderate (pairs 8 16 f)
-moderate-pairs f h = record { at = λ i. rw pairs-table (table-bound 128 (λ k. f (k / 16) (k % 16)) mostFigure (λ k l. h (k / 16) (k % 16)) i) }
+use Rattle.arrays.specs.Added.{rowSums, columnSums}
+use Rattle.arrays.specs.AddedLaws.{at-table, at-rows, at-columns, moderate-pairs}
+use Rattle.block.specs.Totals.{byKind, zeros8, GeneratorsRoom, ConsumersRoom}
+use Rattle.block.specs.TotalsLaws.{spilt, due, under}
 
 part-most : (C : ℕ) (a : ℕ → ℕ) (K c : ℕ) → part C a K c ≤ K * a c
 part-most C a K c =

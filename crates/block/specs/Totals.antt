@@ -7,6 +7,7 @@ use Rattle.lists.specs.Choice.{if_then_else_}
 use Rattle.lists.specs.Sums.{sum}
 use Rattle.lists.specs.Tables.{table}
 use Rattle.lists.specs.Pairs.{place, cell}
+use Rattle.arrays.specs.Added.{added8, added16, rowSums, columnSums}
 use Rattle.arrays.specs.Bounds.{Moderate, Room}
 use Rattle.record.specs.declared.Generators.{Generators}
 use Rattle.record.specs.declared.Consumers.{Consumers}
@@ -16,18 +17,6 @@ use Rattle.settlement.specs.declared.Lists.{Lists}
 -- by generator: a where the kind is 0, else b
 unfoldable pub byKind : List ℕ → List ℕ → List ℕ → List ℕ
 byKind kind a b = table 8 (λ g. if eqb (place 8 kind g) 0 then place 8 a g else place 8 b g)
-
-unfoldable pub added8 : List ℕ → List ℕ → List ℕ
-added8 a b = table 8 (λ g. place 8 a g + place 8 b g)
-
-unfoldable pub added16 : List ℕ → List ℕ → List ℕ
-added16 a b = table 16 (λ c. place 16 a c + place 16 b c)
-
-unfoldable pub rowSums : List ℕ → ℕ → List ℕ
-rowSums m w = table 8 (λ g. sum w (λ c. cell 8 16 m g c))
-
-unfoldable pub columnSums : List ℕ → ℕ → List ℕ
-columnSums m n = table 16 (λ c. sum n (λ g. cell 8 16 m g c))
 
 unfoldable pub zeros8 : List ℕ
 zeros8 = replicate 8 0

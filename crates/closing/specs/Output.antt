@@ -10,8 +10,8 @@ use Rattle.arrays.specs.Written.{pairs-same, list-places, list-table}
 use Rattle.record.specs.Stored.{consumerAt, planOf, figures}
 use Rattle.record.specs.declared.Record.{Record}
 use Rattle.bank.specs.Closing.{charge, drawn, supplied, lapsed, bankAfter, closingLists, closingOutput}
+use Rattle.arrays.specs.AddedLaws.{at-pairs}
 use Rattle.closing.specs.Month.{monthOf}
-use Rattle.closing.specs.TotalsLaws.{at-pairs}
 use Rattle.closing.specs.declared.Month.{Month}
 
 -- the slice has the stated length

@@ -13,13 +13,9 @@ use Rattle.record.specs.SoundLaws.{Facts, injected-most, metered-most}
 use Rattle.record.specs.declared.Record.{Record}
 use Rattle.bank.specs.Closing.{takenUp, charge, credited, drawn, supplied, lapsed}
 use Rattle.bank.specs.ClosingLaws.{drawn-le, generator-split, consumer-split}
+use Rattle.arrays.specs.AddedLaws.{at-table, at-rows, at-columns, moderate-pairs}
 use Rattle.closing.specs.Month.{monthOf, banks-most}
 use Rattle.closing.specs.Totals.{GeneratorsRoom, ConsumersRoom}
-use Rattle.closing.specs.TotalsLaws.{at-table, at-rows, at-columns}
-
--- a pair list of moderate figures
-moderate-pairs : (f : ℕ → ℕ → ℕ) → ((g c : ℕ) → f g c ≤ mostFigure) → Moderate (pairs 8 16 f)
-moderate-pairs f h = record { at = λ i. rw pairs-table (table-bound 128 (λ k. f (k / 16) (k % 16)) mostFigure (λ k l. h (k / 16) (k % 16)) i) }
 
 room : (n : ℕ) (xs ys : List ℕ) → ((i : ℕ) → i < n → place n xs i ≤ mostFigure) → ((i : ℕ) → i < n → place n ys i ≤ mostFigure) → Room n xs ys
 room n xs ys h k = record { at = λ i l. omega (arith, h i l, k i l) }

@@ -7,6 +7,7 @@ use Rattle.lists.specs.Choice.{if_then_else_}
 use Rattle.lists.specs.Sums.{sum}
 use Rattle.lists.specs.Tables.{table}
 use Rattle.lists.specs.Pairs.{place, cell}
+use Rattle.arrays.specs.Added.{added8, added16, rowSums, columnSums}
 use Rattle.arrays.specs.Bounds.{Moderate, Room}
 use Rattle.record.specs.declared.Terms.{Terms}
 use Rattle.record.specs.declared.Counts.{Counts}
@@ -14,18 +15,6 @@ use Rattle.record.specs.declared.Generators.{Generators}
 use Rattle.record.specs.declared.Consumers.{Consumers}
 use Rattle.record.specs.declared.Record.{Record}
 use Rattle.closing.specs.declared.Month.{Month}
-
-unfoldable pub added8 : List ℕ → List ℕ → List ℕ
-added8 a b = table 8 (λ g. place 8 a g + place 8 b g)
-
-unfoldable pub added16 : List ℕ → List ℕ → List ℕ
-added16 a b = table 16 (λ c. place 16 a c + place 16 b c)
-
-unfoldable pub rowSums : List ℕ → ℕ → List ℕ
-rowSums m w = table 8 (λ g. sum w (λ c. cell 8 16 m g c))
-
-unfoldable pub columnSums : List ℕ → ℕ → List ℕ
-columnSums m n = table 16 (λ c. sum n (λ g. cell 8 16 m g c))
 
 unfoldable pub monthsGone : Terms → Counts → ℕ
 monthsGone t n = if eqb (n .gone + 1) (t .cycle) then 0 else n .gone + 1

@@ -1,5 +1,6 @@
 -- `block::consumers_after` meets its contract: rule 8 on the consumers' totals.
-use Rattle.block.specs.Totals.{consumersAfter, added16, columnSums}
+use Rattle.arrays.specs.Added.{added16, columnSums}
+use Rattle.block.specs.Totals.{consumersAfter}
 use borrow.Author.Needs.{needs}
 use Rattle.block.proofs.consumers_after.Statement.{statement}
 use Rattle.block.proofs.consumers_after.Tie as tie

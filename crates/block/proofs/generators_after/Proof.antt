@@ -1,5 +1,6 @@
 -- `block::generators_after` meets its contract: rule 8 on the generators' totals.
-use Rattle.block.specs.Totals.{generatorsAfter, added8, rowSums, zeros8}
+use Rattle.arrays.specs.Added.{added8, rowSums}
+use Rattle.block.specs.Totals.{generatorsAfter, zeros8}
 use borrow.Author.Needs.{needs}
 use Rattle.block.proofs.generators_after.Statement.{statement}
 use Rattle.block.proofs.generators_after.Tie as tie

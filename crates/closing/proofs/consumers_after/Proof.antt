@@ -1,6 +1,7 @@
 -- `closing::consumers_after` meets its contract: a closing's totals by consumer.
 use lib.ListN.{replicate}
-use Rattle.closing.specs.Totals.{consumersAfter, added16, columnSums}
+use Rattle.arrays.specs.Added.{added16, columnSums}
+use Rattle.closing.specs.Totals.{consumersAfter}
 use borrow.Author.Needs.{needs}
 use Rattle.closing.proofs.consumers_after.Statement.{statement}
 use Rattle.closing.proofs.consumers_after.Tie as tie

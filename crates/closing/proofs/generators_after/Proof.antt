@@ -1,6 +1,7 @@
 -- `closing::generators_after` meets its contract: a closing's totals by generator.
 use lib.ListN.{replicate}
-use Rattle.closing.specs.Totals.{generatorsAfter, added8, rowSums}
+use Rattle.arrays.specs.Added.{added8, rowSums}
+use Rattle.closing.specs.Totals.{generatorsAfter}
 use borrow.Author.Needs.{needs}
 use Rattle.closing.proofs.generators_after.Statement.{statement}
 use Rattle.closing.proofs.generators_after.Tie as tie
