@@ -19,7 +19,7 @@ use Rattle.record.specs.Sound.{sound}
 use Rattle.record.specs.SoundLaws.{Facts, facts-cut, injected-most, metered-most}
 use Rattle.record.specs.StoredLaws.{figures-stored}
 use Rattle.record.specs.Called.{Rule, numberOn, recordAfter, outputAfter, Called}
-use Rattle.record.specs.CalledLaws.{Keeps, stored-sound, stored-number, stored-record, stored-output, called}
+use Rattle.record.specs.CalledLaws.{Keeps, stays-sound, stored-sound, stored-number, stored-record, stored-output, called}
 use Rattle.record.specs.declared.Record.{Record}
 use Rattle.record.specs.declared.Answer.{Answer}
 use Rattle.agreement.specs.Opening.{Opening, linkOf, openingRefusal, opened, Opened, Permitted}
@@ -58,6 +58,10 @@ unfolding ruleOf
 call-keeps (schedule kws ranks) = schedule-keeps kws ranks
 call-keeps (block entry exit size) = block-keeps entry exit size
 call-keeps (closing size) = closing-keeps size
+
+-- every call keeps soundness from any sound record, whether a list of calls reaches it or not
+pub every-call-stays-sound : (k : Call) (r : Record) → sound (figures r) ≡ true → sound (figures (recordAfter (ruleOf k) r)) ≡ true
+every-call-stays-sound k r e = stays-sound (ruleOf k) r (call-keeps k) e
 
 call-crosses : (k : Call) (b : Book) → Crossed b → Crossed (ruleOf k .after b)
 unfolding ruleOf scheduleRule afterSchedule blockRule afterBlock closingRule afterClosing
