@@ -1,4 +1,4 @@
-"""The second engine: the energy account of one unit, written from document 01 alone.
+"""The second engine: the energy account of one unit, from document 01 and docs/DECISIONS.md.
 
 It is the measure for the proved engine, so it is written to be checked by eye against the paper:
 rules and steps stand in the paper's order under the paper's words. Energy is in whole watt-hours,
