@@ -4,7 +4,6 @@ ghost use mathlib.Core.Bool.{_&&_};
 ghost use Prim.Native.Nat.{_+_, _*_, _<_, _≤_};
 ghost use lib.Dec.{eqb, ltb};
 ghost use lib.ListN.{length, getD, drop};
-ghost use Rattle.lists.specs.Choice.{if_then_else_};
 ghost use Rattle.lists.specs.Sums.{sum};
 ghost use Rattle.lists.specs.Tests.{some};
 ghost use Rattle.lists.specs.Tables.{table};
@@ -19,13 +18,6 @@ ghost use Rattle.agreement.specs.Refusing.{asked, outside, columnOver, s
 ghost use Rattle.agreement.specs.Storing.{agreedFrom, linksFrom, firstSchedule, scheduleFrom};
 
 // ---- tests of the lists of a call; they are joined by & and |, which do not branch
-
-// The number of a refusal where it applies, otherwise that of the later ones.
-fn refusal(number: u32, applies: bool, later: u32) -> u32
-    ensures { λ r. ⌜ r ≡ (if applies then number else later) ⌝ }
-{
-    if applies { number } else { later }
-}
 
 // Whether one of `count` numbers, from place `from` on, is not in the range.
 fn any_outside(list: &[u32], from: usize, count: usize, low: u64, high: u64) -> bool
@@ -192,16 +184,13 @@ fn opening_refusal(
     if sizes_fit(n, m, generator_list, pair_list) {
         let count = n * m;
         let kind = column_over(generator_list, n, 0, record::LAST_KIND);
-        let capacity = column_over(generator_list, n, 1, record::MOST_CAPACITY)
-            | column_over(generator_list, n, 2, record::MOST_CAPACITY);
+        let capacity = column_over(generator_list, n, 1, energy::MOST_CAPACITY)
+            | column_over(generator_list, n, 2, energy::MOST_CAPACITY);
         let pair = any_outside(pair_list, 0, count, 0, 1)
             | any_outside(pair_list, count, count, 0, record::MOST_LOSS);
         let term = !terms_fit(rate, cycle, gone);
-        refusal(
-            3,
-            kind,
-            refusal(4, capacity, refusal(5, pair, refusal(6, term, 0))),
-        )
+        let later = lists::first(pair, 5, lists::first(term, 6, 0));
+        lists::first(kind, 3, lists::first(capacity, 4, later))
     } else {
         2
     }
@@ -393,7 +382,7 @@ fn schedule_refusal(
         let unlinked = off_link(link, n, m, kws);
         let over = over_capacity(agreed, n, m, kws);
         let rank = any_outside(ranks, 0, count, 1, record::MOST_RANK);
-        refusal(7, unlinked, refusal(8, over, refusal(9, rank, 0)))
+        lists::first(unlinked, 7, lists::first(over, 8, lists::first(rank, 9, 0)))
     } else {
         2
     }
@@ -416,9 +405,7 @@ pub fn schedule(r: record::Record, kws: &[u32], ranks: &[u32]) -> record::Answer
         let n = terms.generators as usize;
         let m = terms.consumers as usize;
         let agreed = r.agreed;
-        let links = r.links;
-        let link = links.link;
-        let number = schedule_refusal(agreed, &link, n, m, kws, ranks);
+        let number = schedule_refusal(agreed, &r.links.link, n, m, kws, ranks);
         if number == 0 {
             let new = schedule_from(n, m, kws, ranks);
             let mut after = r;

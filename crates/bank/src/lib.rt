@@ -105,12 +105,12 @@ impl Bank {
 }
 
 // Steps 2 and 3: consumers 1 to m draw one after the other. The columns and places from m on stay the zeros that they are made with.
-pub fn draw_all(
+pub fn draw_all<'a>(
     bank: Bank,
     n: usize,
     m: usize,
-    rank: &[u64; 128],
-    link: &[u64; 128],
+    rank: &'a [u64; 128],
+    link: &'a [u64; 128],
     outstanding: [u64; 16],
 ) -> Drawing
     requires { ⌜ Drawable n m outstanding ⌝ }

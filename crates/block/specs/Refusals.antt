@@ -32,6 +32,23 @@ ownRefusal n m month blocks entry exit size =
     else if leb mostUnitBlocks blocks then 12
     else 0
 
+module _ (n m month blocks : ℕ) (entry exit : List ℕ) (size : ℕ) where
+  abbrev sized : Bool
+  sized = eqb (length entry) n && eqb (length exit) m && eqb size (4 * (n * m) + n + m)
+
+  pub own-misfit : sized ≡ false → ownRefusal n m month blocks entry exit size ≡ 2
+  unfolding ownRefusal
+  own-misfit e = rw e
+
+  -- the tests as the code makes them, from the last to the first
+  pub own-number : {over over′ : Bool} {unit-full month-full number : ℕ} → sized ≡ true →
+      over ≡ overLimit entry → over′ ≡ overLimit exit →
+      unit-full ≡ (if leb mostUnitBlocks blocks then 12 else 0) → month-full ≡ (if leb mostMonthBlocks month then 11 else unit-full) →
+      number ≡ (if over || over′ then 10 else month-full) →
+      number ≡ ownRefusal n m month blocks entry exit size
+  unfolding ownRefusal
+  own-number e o p u w x = x ∙ rw (e, o, p, w, u)
+
 over-places : (xs : List ℕ) (n : ℕ) → length xs ≡ n → overLimit xs ≡ some n (λ i. ltb mostReading (place n xs i))
 unfolding overLimit
 over-places xs n e = rw e (some-same n _ _ (λ i l. rw (place-in n xs i l)))

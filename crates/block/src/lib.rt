@@ -31,30 +31,26 @@ fn any_over(readings: &[u32]) -> bool
     let mut found = false;
     let mut i: usize = 0;
     while i < readings.len() {
-        found = found | (200_000_000 < readings[i]);
+        found = found | (energy::MOST_READING < lists::wide(readings[i]));
         i += 1;
     }
     found
 }
 
-// The number where the test holds, else what later tests gave.
-fn first(test: bool, number: u32, later: u32) -> u32
-    ensures { λ r. ⌜ r ≡ (if test then number else later) ⌝ }
-{
-    if test { number } else { later }
-}
-
-// The refusals of a sound record with n generators and m consumers.
+// The number of a block on a sound record with n generators and m consumers: 10 to 12 are tested where the lists have
+// the length that is read.
 fn own_refusal(n: usize, m: usize, counts: Counts, entry: &[u32], exit: &[u32], size: usize) -> u32
     requires { ⌜ (n ≤ 8) × (m ≤ 16) ⌝ }
     ensures { λ r. ⌜ r ≡ ownRefusal n m (counts .month) (counts .blocks) (now (entry .entry)) (now (exit .entry)) size ⌝ }
 {
-    let sized = (entry.len() == n) & (exit.len() == m) & (size == 4 * (n * m) + n + m);
-    let over = any_over(entry) | any_over(exit);
-    let unit_full = first(10_000_000 <= counts.blocks, 12, 0);
-    let month_full = first(3_360 <= counts.month, 11, unit_full);
-    let reading = first(over, 10, month_full);
-    first(!sized, 2, reading)
+    if (entry.len() == n) & (exit.len() == m) & (size == 4 * (n * m) + n + m) {
+        let over = any_over(entry) | any_over(exit);
+        let unit_full = lists::first(record::MOST_UNIT_BLOCKS <= counts.blocks, 12, 0);
+        let month_full = lists::first(record::MOST_MONTH_BLOCKS <= counts.month, 11, unit_full);
+        lists::first(over, 10, month_full)
+    } else {
+        2
+    }
 }
 
 fn refusal(r: Record, entry: &[u32], exit: &[u32], size: usize) -> u32
@@ -141,14 +137,14 @@ fn by_kind(kind: [u64; 8], a: [u64; 8], b: [u64; 8]) -> [u64; 8]
     out
 }
 
-fn generators_after(
+fn generators_after<'a>(
     t: Generators,
     kind: [u64; 8],
     entry: [u64; 8],
     unaccounted: [u64; 8],
-    loss: &[u64; 128],
-    setoff: &[u64; 128],
-    underdrawn: &[u64; 128],
+    loss: &'a [u64; 128],
+    setoff: &'a [u64; 128],
+    underdrawn: &'a [u64; 128],
     m: usize,
 ) -> Generators
     requires { ⌜ (m ≤ 16) × GeneratorsRoom t kind entry unaccounted (now loss) (now setoff) (now underdrawn) m ⌝ }
@@ -180,11 +176,11 @@ fn generators_after(
     }
 }
 
-fn consumers_after(
+fn consumers_after<'a>(
     t: Consumers,
     exit: [u64; 16],
-    setoff: &[u64; 128],
-    shortfall: &[u64; 128],
+    setoff: &'a [u64; 128],
+    shortfall: &'a [u64; 128],
     remainder: [u64; 16],
     n: usize,
 ) -> Consumers
@@ -215,72 +211,45 @@ fn after_block(r: Record, entry: [u32; 8], exit: [u32; 16], x: Lists) -> Record
     let terms = r.terms;
     let counted = r.counts;
     let agreed = r.agreed;
-    let links = r.links;
-    let schedule = r.schedule;
     let kind = agreed.kind;
     let before = r.generators;
     let owed = r.consumers;
-    let loss = x.loss;
-    let setoff = x.setoff;
-    let underdrawn = x.underdrawn;
-    let shortfall = x.shortfall;
     let unaccounted = x.unaccounted;
     let remainder = x.remainder;
     let m = terms.consumers as usize;
     let n = terms.generators as usize;
     let injected = wide8(entry);
     let metered = wide16(exit);
+    let counts = Counts {
+        gone: counted.gone,
+        blocks: counted.blocks + 1,
+        month: counted.month + 1,
+    };
     let generators = generators_after(
         before,
         kind,
         injected,
         unaccounted,
-        &loss,
-        &setoff,
-        &underdrawn,
+        &x.loss,
+        &x.setoff,
+        &x.underdrawn,
         m,
     );
-    let consumers = consumers_after(owed, metered, &setoff, &shortfall, remainder, n);
-    Record {
-        terms,
-        counts: Counts {
-            gone: counted.gone,
-            blocks: counted.blocks + 1,
-            month: counted.month + 1,
-        },
-        agreed,
-        links,
-        schedule,
-        generators,
-        consumers,
-    }
-}
-
-// Rules 1 to 7 on the arrays of a record.
-fn settled(r: Record, entry: [u32; 8], exit: [u32; 16]) -> Lists
-    requires { ⌜ Settleable (planIn r) (place 8 entry) (place 16 exit) ⌝ }
-    ensures { λ x. ⌜ x ≡ listsOf (planIn r) (place 8 entry) (place 16 exit) ⌝ }
-{
-    let terms = r.terms;
-    let agreed = r.agreed;
-    let links = r.links;
-    let schedule = r.schedule;
-    let kind = agreed.kind;
-    let loss = links.loss;
-    let kw = schedule.kw;
-    let rank = schedule.rank;
-    let n = terms.generators as usize;
-    let m = terms.consumers as usize;
-    settlement::settle_block(n, m, kind, &kw, &loss, &rank, entry, exit)
+    let consumers = consumers_after(owed, metered, &x.setoff, &x.shortfall, remainder, n);
+    let mut after = r;
+    after.counts = counts;
+    after.generators = generators;
+    after.consumers = consumers;
+    after
 }
 
 // The block's output: each list into its own stretch of the slice.
-fn write_lists(
+fn write_lists<'a>(
     out: &mut [u64],
-    loss: &[u64; 128],
-    setoff: &[u64; 128],
-    underdrawn: &[u64; 128],
-    shortfall: &[u64; 128],
+    loss: &'a [u64; 128],
+    setoff: &'a [u64; 128],
+    underdrawn: &'a [u64; 128],
+    shortfall: &'a [u64; 128],
     unaccounted: [u64; 8],
     remainder: [u64; 16],
     n: usize,
@@ -302,40 +271,41 @@ fn write_lists(
     arrays::put16(out, last, &remainder, m);
 }
 
-fn write_output(out: &mut [u64], x: Lists, n: usize, m: usize)
-    requires { ⌜ OutputRoom (now out) n m ⌝ }
-    ensures { λ r. ⌜ now (out .exit) ≡ listsWritten x n m ⌝ }
-{
-    let loss = x.loss;
-    let setoff = x.setoff;
-    let underdrawn = x.underdrawn;
-    let shortfall = x.shortfall;
-    let unaccounted = x.unaccounted;
-    let remainder = x.remainder;
-    write_lists(
-        out,
-        &loss,
-        &setoff,
-        &underdrawn,
-        &shortfall,
-        unaccounted,
-        remainder,
-        n,
-        m,
-    );
-}
-
+// Rules 1 to 8, and the output. The arrays are lent where they lie: no list is copied on the way.
 fn accepted(r: Record, entry: &[u32], exit: &[u32], out: &mut [u64]) -> Record
     requires { ⌜ numberOn (blockRule (now entry) (now exit) (length (now out))) r ≡ 0 ⌝ }
     ensures { λ a. ⌜ Entered r (now (entry .entry)) (now (exit .entry)) a (now (out .exit)) ⌝ }
 {
     let terms = r.terms;
+    let agreed = r.agreed;
+    let kind = agreed.kind;
     let n = terms.generators as usize;
     let m = terms.consumers as usize;
     let injected = eight(entry);
     let metered = sixteen(exit);
-    let x = settled(r, injected, metered);
-    write_output(out, x, n, m);
+    let x = settlement::settle_block(
+        n,
+        m,
+        kind,
+        &r.schedule.kw,
+        &r.links.loss,
+        &r.schedule.rank,
+        injected,
+        metered,
+    );
+    let unaccounted = x.unaccounted;
+    let remainder = x.remainder;
+    write_lists(
+        out,
+        &x.loss,
+        &x.setoff,
+        &x.underdrawn,
+        &x.shortfall,
+        unaccounted,
+        remainder,
+        n,
+        m,
+    );
     after_block(r, injected, metered, x)
 }
 

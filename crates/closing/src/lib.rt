@@ -3,7 +3,6 @@ ghost use mathlib.Core.Path.{_≡_};
 ghost use Prim.Native.Nat.{_+_, _≤_};
 ghost use lib.Dec.{eqb};
 ghost use lib.ListN.{length};
-ghost use Rattle.lists.specs.Choice.{if_then_else_};
 ghost use Rattle.record.specs.Called.{numberOn};
 ghost use Rattle.bank.specs.Closing.{closingRule, Closed};
 ghost use Rattle.closing.specs.Refusals.{ownRefusal};
@@ -28,21 +27,14 @@ pub struct Month {
     pub balance: [u64; 8],
 }
 
-// The number where the test holds, else what later tests gave.
-fn first(test: bool, number: u32, later: u32) -> u32
-    ensures { λ r. ⌜ r ≡ (if test then number else later) ⌝ }
-{
-    if test { number } else { later }
-}
-
 // The refusals of a sound record with n generators and m consumers.
 fn own_refusal(n: usize, m: usize, month: u64, size: usize) -> u32
     requires { ⌜ (n ≤ 8) × (m ≤ 16) ⌝ }
     ensures { λ r. ⌜ r ≡ ownRefusal n m month size ⌝ }
 {
     let sized = size == n * m + 3 * n + 2 * m;
-    let empty = first(month == 0, 13, 0);
-    first(!sized, 2, empty)
+    let empty = lists::first(month == 0, 13, 0);
+    lists::first(!sized, 2, empty)
 }
 
 fn refusal(r: Record, size: usize) -> u32
@@ -86,22 +78,16 @@ fn steps(r: Record) -> Month
 {
     let terms = r.terms;
     let counts = r.counts;
-    let links = r.links;
-    let schedule = r.schedule;
-    let generators = r.generators;
-    let consumers = r.consumers;
-    let link = links.link;
-    let rank = schedule.rank;
-    let pending = generators.pending;
-    let outstanding = consumers.outstanding;
+    let held = r.generators.bank;
+    let pending = r.generators.pending;
+    let outstanding = r.consumers.outstanding;
     let n = terms.generators as usize;
     let m = terms.consumers as usize;
-    let held = generators.bank;
     let before = Bank { balance: held };
     let credit = before.credit(pending, terms.rate);
     let credited = credit.bank;
     let charge = credit.charge;
-    let drawing = bank::draw_all(credited, n, m, &rank, &link, outstanding);
+    let drawing = bank::draw_all(credited, n, m, &r.schedule.rank, &r.links.link, outstanding);
     let drawn_on = drawing.bank;
     let drawn = drawing.drawn;
     let supplied = drawing.supplied;
@@ -178,29 +164,22 @@ fn after_closing(r: Record, x: Month) -> Record
 {
     let terms = r.terms;
     let counted = r.counts;
-    let agreed = r.agreed;
-    let links = r.links;
-    let schedule = r.schedule;
     let before = r.generators;
     let owed = r.consumers;
     let n = terms.generators as usize;
     let m = terms.consumers as usize;
-    let gone = months_gone(terms, counted);
+    let counts = Counts {
+        gone: months_gone(terms, counted),
+        blocks: counted.blocks,
+        month: 0,
+    };
     let generators = generators_after(before, x, m);
     let consumers = consumers_after(owed, x, n);
-    Record {
-        terms,
-        counts: Counts {
-            gone,
-            blocks: counted.blocks,
-            month: 0,
-        },
-        agreed,
-        links,
-        schedule,
-        generators,
-        consumers,
-    }
+    let mut after = r;
+    after.counts = counts;
+    after.generators = generators;
+    after.consumers = consumers;
+    after
 }
 
 // The closing's output: each list into its own stretch of the slice.
@@ -231,18 +210,23 @@ fn write_lists(
     arrays::put16(out, last, &supplied, m);
 }
 
-fn write_output(out: &mut [u64], x: Month, outstanding: [u64; 16], n: usize, m: usize)
-    requires { ⌜ OutputRoom (now out) n m ⌝ }
-    ensures { λ r. ⌜ now (out .exit) ≡ monthWritten x outstanding n m ⌝ }
+// Steps 1 to 4, and the output.
+fn accepted(r: Record, out: &mut [u64]) -> Record
+    requires { ⌜ numberOn (closingRule (length (now out))) r ≡ 0 ⌝ }
+    ensures { λ a. ⌜ MonthClosed r a (now (out .exit)) ⌝ }
 {
-    let drawn = x.drawn;
+    let terms = r.terms;
+    let outstanding = r.consumers.outstanding;
+    let n = terms.generators as usize;
+    let m = terms.consumers as usize;
+    let x = steps(r);
     let charge = x.charge;
     let lapsed = x.lapsed;
     let balance = x.balance;
     let supplied = x.supplied;
     write_lists(
         out,
-        &drawn,
+        &x.drawn,
         charge,
         lapsed,
         balance,
@@ -251,19 +235,6 @@ fn write_output(out: &mut [u64], x: Month, outstanding: [u64; 16], n: usize, m: 
         n,
         m,
     );
-}
-
-fn accepted(r: Record, out: &mut [u64]) -> Record
-    requires { ⌜ numberOn (closingRule (length (now out))) r ≡ 0 ⌝ }
-    ensures { λ a. ⌜ MonthClosed r a (now (out .exit)) ⌝ }
-{
-    let terms = r.terms;
-    let consumers = r.consumers;
-    let outstanding = consumers.outstanding;
-    let n = terms.generators as usize;
-    let m = terms.consumers as usize;
-    let x = steps(r);
-    write_output(out, x, outstanding, n, m);
     after_closing(r, x)
 }
 

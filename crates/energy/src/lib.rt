@@ -8,8 +8,8 @@ ghost use Rattle.energy.specs.Energy.{quarterHour, portionUp, lossOn};
 ghost use Rattle.energy.specs.Share.{part, shared};
 ghost use Rattle.energy.specs.Requirements.{Portionable, Shareable};
 
-// Wh in one reading, and kW in one row of the schedule.
-pub const MOST_READING: u32 = 200_000_000;
+// Wh in one reading; kW installed or contracted, and so the kW of one row of the schedule.
+pub const MOST_READING: u64 = 200_000_000;
 
 pub const MOST_CAPACITY: u64 = 400_000;
 
@@ -78,7 +78,7 @@ pub fn share(k: u32, kw: [u32; 16]) -> [u32; 16]
     ensures { λ r. ⌜ r ≡ shared k kw ⌝ }
 {
     let all = total(kw);
-    if k > MOST_READING {
+    if lists::wide(k) > MOST_READING {
         return [0u32; 16];
     }
     if all > MOST_CAPACITY {

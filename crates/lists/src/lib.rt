@@ -1,8 +1,16 @@
-// Definitions and laws of lists, sums and tests; the one function is the cast that every reader of a u32 uses.
+// Definitions and laws of lists, sums and tests, and two small functions that every call uses.
 ghost use mathlib.Core.Path.{_≡_};
+ghost use Rattle.lists.specs.Choice.{if_then_else_};
 
 pub fn wide(x: u32) -> u64
     ensures { λ r. ⌜ r ≡ x ⌝ }
 {
     x as u64
+}
+
+// The number where its test holds, else what the later tests gave: so the lowest number that applies is returned.
+pub fn first(test: bool, number: u32, later: u32) -> u32
+    ensures { λ r. ⌜ r ≡ (if test then number else later) ⌝ }
+{
+    if test { number } else { later }
 }

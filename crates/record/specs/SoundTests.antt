@@ -1,15 +1,19 @@
 -- The tests of the parts of a stored record, as the code goes through them, and that they make up the test of the whole. Assumes nothing.
-use Prim.Native.Nat.{ℕ, _/_, _%_, _≤_, _<_}
-use mathlib.Core.Path.{_≡_, _∙_}
-use mathlib.Core.Bool.{Bool, true, false, _&&_}
+use Prim.Native.Nat.{ℕ, zero, suc, _+_, _-_, _*_, _≤_, _<_}
+use mathlib.Core.Path.{_≡_, refl, sym, ap, ap₂, _∙_}
+use mathlib.Core.Bool.{Bool, true, false, _&&_, _||_}
 use mathlib.Core.List.{List, [], _∷_}
-use lib.Dec.{leb, ltb}
-use lib.ListN.{getD}
-use borrow.Author.Tests.{leb-true, lt-ltb}
+use native.Mathlib.Nat.{add-assoc}
+use native.Mathlib.Omega.{arith}
+use lib.Bits.{bitOr, or-zero-l, or-add-and, and-le-r}
+use lib.Dec.{eqb, leb, ltb}
+use lib.ListN.{length, getD, take, drop, length-take, length-drop}
+use lib.Seq.{getD-take, getD-drop}
+use borrow.Author.Tests.{leb-true, lt-ltb, le-ltb, le-leb, lt-leb, ne-eqb, eqb-true}
 use Rattle.lists.specs.Sums.{sum}
-use Rattle.lists.specs.Tests.{all, all-rows, all-same, within, within-high, chain-at}
+use Rattle.lists.specs.Tests.{all, all-rows, all-same, all-plus, all-and, within, within-high, chain-at}
 use Rattle.lists.specs.Pairs.{place, cell}
-use Rattle.lists.specs.PairsLaws.{row-of, column-of}
+use Rattle.lists.specs.PairsLaws.{cell-in}
 use Rattle.energy.specs.Limits.{mostGenerators, mostConsumers, mostRate, mostCycle, mostUnitBlocks, mostMonthBlocks}
 use Rattle.delivery.specs.Plan.{scheduled}
 use Rattle.record.specs.Stored.{generatorAt, consumerAt, planOf, figures}
@@ -20,8 +24,6 @@ use Rattle.record.specs.declared.Record.{Record}
 use Rattle.record.specs.declared.Terms.{Terms}
 use Rattle.record.specs.declared.Counts.{Counts}
 use Rattle.record.specs.declared.Agreed.{Agreed}
-use Rattle.record.specs.declared.Links.{Links}
-use Rattle.record.specs.declared.Schedule.{Schedule}
 use Rattle.record.specs.declared.Generators.{Generators}
 use Rattle.record.specs.declared.Consumers.{Consumers}
 use Rattle.record.specs.declared.GeneratorTerms.{GeneratorTerms}
@@ -35,9 +37,8 @@ countsTest t n = countsSound (t .generators) (t .consumers) (t .rate) (t .cycle)
 unfoldable pub agreedTest : Agreed → List ℕ → ℕ → ℕ → ℕ → Bool
 agreedTest a kw G C g = agreedSound (ltb g G) (place 8 (a .kind) g) (place 8 (a .installed) g) (place 8 (a .contracted) g) (sum C (cell 8 16 kw g))
 
-unfoldable pub pairTest : Links → Schedule → ℕ → ℕ → ℕ → ℕ → Bool
-pairTest l s G C g c =
-    pairSound (ltb g G && ltb c C) (cell 8 16 (l .link) g c) (cell 8 16 (l .loss) g c) (cell 8 16 (s .kw) g c) (cell 8 16 (s .rank) g c)
+unfoldable pub pairTest : List ℕ → List ℕ → List ℕ → List ℕ → ℕ → ℕ → ℕ → ℕ → Bool
+pairTest link loss kw rank G C g c = pairSound (ltb g G && ltb c C) (cell 8 16 link g c) (cell 8 16 loss g c) (cell 8 16 kw g c) (cell 8 16 rank g c)
 
 unfoldable pub generatorTest : Generators → ℕ → ℕ → ℕ → Bool
 generatorTest t G blocks g = generatorSound blocks (ltb g G) (generatorAt t g)
@@ -86,35 +87,109 @@ unfolding consumerTest consumerAt place
 consumer-here t C blocks c l = rw (lt-ltb c 16 l)
 
 -- place k of the four pair lists
-unfoldable pub pairRead : Links → Schedule → ℕ → ℕ → ℕ → Bool
-pairRead l s G C k = pairSound (ltb (k / 16) G && ltb (k % 16) C) (getD (l .link) k 0) (getD (l .loss) k 0) (getD (s .kw) k 0) (getD (s .rank) k 0)
+unfoldable pub pairRead : List ℕ → List ℕ → List ℕ → List ℕ → Bool → ℕ → Bool
+pairRead link loss kw rank inside k = pairSound inside (getD link k 0) (getD loss k 0) (getD kw k 0) (getD rank k 0)
 
-pub pairs-here : (l : Links) (s : Schedule) (G C : ℕ) → all 128 (pairRead l s G C) ≡ all 8 (λ g. all 16 (pairTest l s G C g))
-unfolding pairRead pairTest cell
-pairs-here l s G C =
-    all-rows 8 16 (pairRead l s G C) ∙
-    all-same 8 _ _ (λ g i. all-same 16 _ _ (λ c k. rw (row-of 16 g c k, column-of 16 g c k, lt-ltb g 8 i, lt-ltb c 16 k)))
+unfoldable pub zeroAt : List ℕ → ℕ → Bool
+zeroAt xs i = eqb (getD xs i 0) 0
+
+pub zeros-part : (xs : List ℕ) (from to : ℕ) → to ≤ length xs → all (length (take (to - from) (drop from xs))) (zeroAt (take (to - from) (drop from xs))) ≡ all (to - from) (λ i. zeroAt xs (from + i))
+unfolding zeroAt
+zeros-part xs from to h =
+    ap (λ (k : ℕ). all k (zeroAt (take (to - from) (drop from xs)))) (length-take (to - from) (drop from xs) ∙ omega (arith, length-drop from xs, h)) ∙
+    all-same (to - from) _ _ (λ i l. rw (getD-take (to - from) (drop from xs) i 0 l, getD-drop from xs i 0))
+
+-- a number made of all by `|` is 0 where each of them is
+pub or-zero : (a b : ℕ) → eqb (bitOr a b) 0 ≡ eqb a 0 && eqb b 0
+or-zero zero b = rw (or-zero-l b)
+or-zero (suc a) b = rw (ne-eqb (suc a) 0 (λ e. absurd (omega (arith, e)))) (ne-eqb (bitOr (suc a) b) 0 (λ e. absurd (omega (arith, e, or-add-and (suc a) b, and-le-r (suc a) b))))
+
+at-most-zero : (x : ℕ) → leb x 0 ≡ eqb x 0
+at-most-zero zero = refl
+at-most-zero (suc x) = rw (ne-eqb (suc x) 0 (λ e. absurd (omega (arith, e)))) (lt-leb (suc x) 0 (omega arith))
+
+-- beyond the agreement a pair is sound where its four numbers are 0
+beyond : (link loss kw rank : ℕ) → pairSound false link loss kw rank ≡ ((eqb link 0 && eqb loss 0) && eqb kw 0) && eqb rank 0
+unfolding pairSound
+beyond link loss kw rank = rw (at-most-zero link, at-most-zero loss, at-most-zero rank, le-leb 0 rank (omega arith)) (go (eqb link 0) refl (eqb loss 0))
+  where
+    last : (k : Bool) → (k && true) && eqb rank 0 ≡ k && eqb rank 0
+    last true = refl
+    last false = refl
+
+    go : (a : Bool) → eqb link 0 ≡ a → (b : Bool) → (((a && b) && (eqb link 1 || eqb kw 0)) && true) && eqb rank 0 ≡ ((a && b) && eqb kw 0) && eqb rank 0
+    go false e b = refl
+    go true e false = refl
+    go true e true = rw (ne-eqb link 1 (λ q. absurd (omega (arith, q, eqb-true link 0 e)))) (last (eqb kw 0))
+
+module _ (link loss kw rank : List ℕ) where
+  pub beyond-here : (n from : ℕ) {a b c d : Bool} →
+      a ≡ all n (λ i. zeroAt link (from + i)) → b ≡ all n (λ i. zeroAt loss (from + i)) → c ≡ all n (λ i. zeroAt kw (from + i)) → d ≡ all n (λ i. zeroAt rank (from + i)) →
+      (a && b && c && d) ≡ all n (λ i. pairRead link loss kw rank false (from + i))
+  unfolding pairRead zeroAt
+  beyond-here n from {a} {b} {c} {d} p q s t =
+      rw (p, q, s, t, all-and n _ _, all-and n _ _, all-and n _ _) (all-same n _ _ (λ i l. sym (beyond (getD link (from + i) 0) (getD loss (from + i) 0) (getD kw (from + i) 0) (getD rank (from + i) 0))))
+
+  -- the first m places of a row, and those beyond
+  pub row-here : (g m : ℕ) {a b : Bool} → m ≤ 16 →
+      a ≡ all m (λ c. pairRead link loss kw rank true (g * 16 + c)) → b ≡ all (g * 16 + 16 - (g * 16 + m)) (λ i. pairRead link loss kw rank false (g * 16 + m + i)) →
+      (a && b) ≡ all 16 (λ c. pairRead link loss kw rank (ltb c m) (g * 16 + c))
+  row-here g m {a} {b} h p q =
+      rw (p, q) (ap₂ _&&_ (all-same m _ _ (λ c l. rw (lt-ltb c m l))) (count ∙ all-same (16 - m) _ _ (λ i l. rw (le-ltb (m + i) m (omega arith), add-assoc (g * 16) m i)))
+      ∙ sym (all-plus m (16 - m) row) ∙ ap (λ (k : ℕ). all k row) (omega (arith, h)))
+    where
+      row : ℕ → Bool
+      row c = pairRead link loss kw rank (ltb c m) (g * 16 + c)
+
+      count : all (g * 16 + 16 - (g * 16 + m)) (λ i. pairRead link loss kw rank false (g * 16 + m + i)) ≡ all (16 - m) (λ i. pairRead link loss kw rank false (g * 16 + m + i))
+      count = ap (λ (k : ℕ). all k (λ i. pairRead link loss kw rank false (g * 16 + m + i))) (omega (arith, h))
+
+  -- the first n rows, and those beyond
+  pub pairs-here : (n m : ℕ) {a b : Bool} → n ≤ 8 →
+      a ≡ all n (λ g. all 16 (λ c. pairRead link loss kw rank (ltb c m) (g * 16 + c))) → b ≡ all (128 - n * 16) (λ i. pairRead link loss kw rank false (n * 16 + i)) →
+      (a && b) ≡ all 8 (λ g. all 16 (pairTest link loss kw rank n m g))
+  unfolding pairRead pairTest
+  pairs-here n m {a} {b} h p q =
+      rw (p, q) (ap₂ _&&_ (all-same n _ _ (λ g l. all-same 16 _ _ (λ c k. inside g c l k))) (count ∙ all-rows (8 - n) 16 _ ∙ all-same (8 - n) _ _ (λ g l. all-same 16 _ _ (λ c k. outside g c l k)))
+      ∙ sym (all-plus n (8 - n) rows) ∙ ap (λ (k : ℕ). all k rows) (omega (arith, h)))
+    where
+      rows : ℕ → Bool
+      rows g = all 16 (pairTest link loss kw rank n m g)
+
+      count : all (128 - n * 16) (λ i. pairRead link loss kw rank false (n * 16 + i)) ≡ all ((8 - n) * 16) (λ i. pairRead link loss kw rank false (n * 16 + i))
+      count = ap (λ (k : ℕ). all k (λ i. pairRead link loss kw rank false (n * 16 + i))) (omega (arith, h))
+
+      cells : (g c : ℕ) → g < 8 → c < 16 → (inside : Bool) → pairRead link loss kw rank inside (g * 16 + c) ≡ pairSound inside (cell 8 16 link g c) (cell 8 16 loss g c) (cell 8 16 kw g c) (cell 8 16 rank g c)
+      cells g c l k inside = rw (cell-in 8 16 link g c l k, cell-in 8 16 loss g c l k, cell-in 8 16 kw g c l k, cell-in 8 16 rank g c l k)
+
+      inside : (g c : ℕ) → g < n → c < 16 → pairRead link loss kw rank (ltb c m) (g * 16 + c) ≡ pairTest link loss kw rank n m g c
+      inside g c l k = cells g c (omega (arith, h)) k (ltb c m) ∙ rw (lt-ltb g n l)
+
+      outside : (g c : ℕ) → g < 8 - n → c < 16 → pairRead link loss kw rank false (n * 16 + (g * 16 + c)) ≡ pairTest link loss kw rank n m (n + g) c
+      outside g c l k =
+          ap (λ (i : ℕ). pairRead link loss kw rank false i) (omega arith) ∙ cells (n + g) c (omega (arith, l)) k false ∙ rw (le-ltb (n + g) n (omega arith))
 
 -- ---- the whole
 
 -- what the code that tests the other parts needs of the counts
-pub record CountsFit (C blocks : ℕ) : Type 0 where
+pub record CountsFit (G C blocks : ℕ) : Type 0 where
+  pub generators-fit : G ≤ mostGenerators
   pub consumers-fit : C ≤ mostConsumers
   pub blocks-fit : blocks ≤ mostUnitBlocks
 
-pub counts-fit : (t : Terms) (n : Counts) → countsTest t n ≡ true → CountsFit (t .consumers) (n .blocks)
+pub counts-fit : (t : Terms) (n : Counts) → countsTest t n ≡ true → CountsFit (t .generators) (t .consumers) (n .blocks)
 unfolding countsTest countsSound
 counts-fit t n e =
     let w =
     chain-at (within 1 mostGenerators (t .generators))
     (within 1 mostConsumers (t .consumers) ∷ leb (t .rate) mostRate ∷ within 1 mostCycle (t .cycle) ∷ ltb (n .gone) (t .cycle) ∷ leb (n .blocks) mostUnitBlocks ∷ leb (n .month) mostMonthBlocks ∷ leb (n .month) (n .blocks) ∷ [])
     e in
-    record { consumers-fit = within-high _ _ _ (w 1); blocks-fit = leb-true _ _ (w 5) }
+    record { generators-fit = within-high _ _ _ (w 0); consumers-fit = within-high _ _ _ (w 1); blocks-fit = leb-true _ _ (w 5) }
 
 pub sound-by-parts : (r : Record) {a b c d : Bool} →
     countsTest (r .terms) (r .counts) ≡ true →
     a ≡ all 8 (agreedTest (r .agreed) (r .schedule .kw) (r .terms .generators) (r .terms .consumers)) →
-    b ≡ all 8 (λ g. all 16 (pairTest (r .links) (r .schedule) (r .terms .generators) (r .terms .consumers) g)) →
+    b ≡ all 8 (λ g. all 16 (pairTest (r .links .link) (r .links .loss) (r .schedule .kw) (r .schedule .rank) (r .terms .generators) (r .terms .consumers) g)) →
     c ≡ all 8 (generatorTest (r .generators) (r .terms .generators) (r .counts .blocks)) →
     d ≡ all 16 (consumerTest (r .consumers) (r .terms .consumers) (r .counts .blocks)) →
     (a && b && c && d) ≡ sound (figures r)

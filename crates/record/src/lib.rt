@@ -1,12 +1,15 @@
 // The record of one unit, as the calls take and return it by value: 8 and 16 places always, every number a u64.
 ghost use mathlib.Core.Path.{_≡_};
-ghost use Prim.Native.Nat.{_<_, _≤_, min};
+ghost use mathlib.Core.Bool.{false};
+ghost use Prim.Native.Nat.{_+_, _-_, _*_, _<_, _≤_, min};
+ghost use lib.Dec.{ltb};
+ghost use lib.ListN.{length};
 ghost use Rattle.lists.specs.Tests.{all, within};
-ghost use Rattle.energy.specs.Limits.{mostConsumers, mostUnitBlocks};
+ghost use Rattle.energy.specs.Limits.{mostGenerators, mostConsumers, mostUnitBlocks};
 ghost use Rattle.record.specs.Stored.{figures};
 ghost use Rattle.record.specs.Sound.{limit, agreedSound, pairSound, generatorSound, consumerSound, sound};
 ghost use Rattle.record.specs.Capped.{Clipped, RowTotal};
-ghost use Rattle.record.specs.SoundTests.{countsTest, agreedTest, pairTest, generatorTest, consumerTest};
+ghost use Rattle.record.specs.SoundTests.{countsTest, agreedTest, zeroAt, pairRead, pairTest, generatorTest, consumerTest};
 
 // counts of generators and consumers, and the bank's terms: fixed at opening
 pub struct Terms {
@@ -106,7 +109,7 @@ pub struct ConsumerTerms {
     pub outstanding: u64,
 }
 
-// ---- the limits that document 01 names
+// ---- the limits that document 01 names; those of a reading and of a capacity are in crate energy
 
 pub const MOST_GENERATORS: u64 = 8;
 
@@ -114,9 +117,6 @@ pub const MOST_CONSUMERS: u64 = 16;
 
 // kinds are 0 scheduled, 1 wind, 2 mini-hydel, 3 solar
 pub const LAST_KIND: u64 = 3;
-
-// installed and contracted kW, each
-pub const MOST_CAPACITY: u64 = 400_000;
 
 // loss of a pair and charge rate of the bank, in hundredths of a percent
 pub const MOST_LOSS: u64 = 5_000;
@@ -127,9 +127,6 @@ pub const MOST_RATE: u64 = 5_000;
 pub const MOST_CYCLE: u64 = 12;
 
 pub const MOST_RANK: u64 = 255;
-
-// Wh in one reading
-pub const MOST_READING: u64 = 200_000_000;
 
 // blocks in one month, and in the life of a unit
 pub const MOST_MONTH_BLOCKS: u64 = 3_360;
@@ -184,8 +181,8 @@ fn agreed_sound(inside: bool, kind: u64, installed: u64, contracted: u64, total:
     ensures { λ r. ⌜ r ≡ agreedSound inside kind installed contracted total ⌝ }
 {
     (kind <= limit_at(inside, LAST_KIND))
-        & (installed <= limit_at(inside, MOST_CAPACITY))
-        & (contracted <= limit_at(inside, MOST_CAPACITY))
+        & (installed <= limit_at(inside, energy::MOST_CAPACITY))
+        & (contracted <= limit_at(inside, energy::MOST_CAPACITY))
         & (total <= lower(installed, contracted))
 }
 
@@ -203,7 +200,7 @@ fn generator_sound(blocks: u64, inside: bool, x: GeneratorTerms) -> bool
     requires { ⌜ blocks ≤ mostUnitBlocks ⌝ }
     ensures { λ r. ⌜ r ≡ generatorSound blocks inside x ⌝ }
 {
-    let most = limit_at(inside, MOST_READING * blocks);
+    let most = limit_at(inside, energy::MOST_READING * blocks);
     let split = capped(x.unaccounted)
         + capped(x.lost)
         + capped(x.setoff)
@@ -220,7 +217,7 @@ fn consumer_sound(blocks: u64, inside: bool, x: ConsumerTerms) -> bool
     requires { ⌜ blocks ≤ mostUnitBlocks ⌝ }
     ensures { λ r. ⌜ r ≡ consumerSound blocks inside x ⌝ }
 {
-    let most = limit_at(inside, MOST_READING * blocks);
+    let most = limit_at(inside, energy::MOST_READING * blocks);
     let split = capped(x.setoff)
         + capped(x.shortfall)
         + capped(x.drawn)
@@ -258,18 +255,86 @@ fn agreed_all_sound(a: Agreed, kw: &[u64; 128], n: usize, m: usize) -> bool
     ok
 }
 
-fn pairs_sound(l: Links, s: Schedule, n: usize, m: usize) -> bool
-    ensures { λ r. ⌜ r ≡ all 8 (λ g. all 16 (pairTest l s n m g)) ⌝ }
+// whether all the numbers are 0; joined by |, which goes through several at a time
+fn all_zero(xs: &[u64]) -> bool
+    ensures { λ r. ⌜ r ≡ all (length (now (xs .entry))) (zeroAt (now (xs .entry))) ⌝ }
+{
+    let mut bits: u64 = 0;
+    let mut i: usize = 0;
+    while i < xs.len() {
+        bits = bits | xs[i];
+        i += 1;
+    }
+    bits == 0
+}
+
+// the pair lists beyond the agreement, from one place to another
+fn zeros_in(xs: &[u64; 128], from: usize, to: usize) -> bool
+    requires { ⌜ (from ≤ to) × (to ≤ 128) ⌝ }
+    ensures { λ r. ⌜ r ≡ all (to - from) (λ i. zeroAt (now (xs .entry)) (from + i)) ⌝ }
+{
+    let whole = &xs[..];
+    all_zero(&whole[from..to])
+}
+
+fn beyond_sound<'a>(
+    link: &'a [u64; 128],
+    loss: &'a [u64; 128],
+    kw: &'a [u64; 128],
+    rank: &'a [u64; 128],
+    from: usize,
+    to: usize,
+) -> bool
+    requires { ⌜ (from ≤ to) × (to ≤ 128) ⌝ }
+    ensures { λ r. ⌜ r ≡ all (to - from) (λ i. pairRead (now (link .entry)) (now (loss .entry)) (now (kw .entry)) (now (rank .entry)) false (from + i)) ⌝ }
+{
+    zeros_in(link, from, to)
+        & zeros_in(loss, from, to)
+        & zeros_in(kw, from, to)
+        & zeros_in(rank, from, to)
+}
+
+// row g within the agreement, 16 places of which m are within it
+fn row_sound<'a>(
+    link: &'a [u64; 128],
+    loss: &'a [u64; 128],
+    kw: &'a [u64; 128],
+    rank: &'a [u64; 128],
+    g: usize,
+    m: usize,
+) -> bool
+    requires { ⌜ (g < 8) × (m ≤ 16) ⌝ }
+    ensures { λ r. ⌜ r ≡ all 16 (λ c. pairRead (now (link .entry)) (now (loss .entry)) (now (kw .entry)) (now (rank .entry)) (ltb c m) (g * 16 + c)) ⌝ }
+{
+    let start = g * 16;
+    let mut ok = true;
+    let mut c: usize = 0;
+    while c < m {
+        let k = start + c;
+        ok = ok & pair_sound(true, link[k], loss[k], kw[k], rank[k]);
+        c += 1;
+    }
+    ok & beyond_sound(link, loss, kw, rank, start + m, start + 16)
+}
+
+fn pairs_sound<'a>(
+    link: &'a [u64; 128],
+    loss: &'a [u64; 128],
+    kw: &'a [u64; 128],
+    rank: &'a [u64; 128],
+    n: usize,
+    m: usize,
+) -> bool
+    requires { ⌜ (n ≤ mostGenerators) × (m ≤ mostConsumers) ⌝ }
+    ensures { λ r. ⌜ r ≡ all 8 (λ g. all 16 (pairTest (now (link .entry)) (now (loss .entry)) (now (kw .entry)) (now (rank .entry)) n m g)) ⌝ }
 {
     let mut ok = true;
-    let mut k: usize = 0;
-    while k < 128 {
-        let g = k / 16;
-        let c = k % 16;
-        ok = ok & pair_sound((g < n) & (c < m), l.link[k], l.loss[k], s.kw[k], s.rank[k]);
-        k += 1;
+    let mut g: usize = 0;
+    while g < n {
+        ok = ok & row_sound(link, loss, kw, rank, g, m);
+        g += 1;
     }
-    ok
+    ok & beyond_sound(link, loss, kw, rank, n * 16, 128)
 }
 
 // the fields are read here: passing t on in a loop would copy it each turn
@@ -319,6 +384,7 @@ fn consumers_sound(t: Consumers, m: usize, blocks: u64) -> bool
     ok
 }
 
+// the arrays are lent where they lie: a record is large
 pub fn is_sound(r: Record) -> bool
     ensures { λ b. ⌜ b ≡ sound (figures r) ⌝ }
 {
@@ -329,13 +395,17 @@ pub fn is_sound(r: Record) -> bool
         let m = terms.consumers as usize;
         let blocks = counts.blocks;
         let agreed = r.agreed;
-        let links = r.links;
-        let schedule = r.schedule;
-        let kw = schedule.kw;
         let generators = r.generators;
         let consumers = r.consumers;
-        agreed_all_sound(agreed, &kw, n, m)
-            & pairs_sound(links, schedule, n, m)
+        agreed_all_sound(agreed, &r.schedule.kw, n, m)
+            & pairs_sound(
+                &r.links.link,
+                &r.links.loss,
+                &r.schedule.kw,
+                &r.schedule.rank,
+                n,
+                m,
+            )
             & generators_sound(generators, n, blocks)
             & consumers_sound(consumers, m, blocks)
     } else {

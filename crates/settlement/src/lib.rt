@@ -28,11 +28,11 @@ struct Share {
 }
 
 // Rules 5 to 7 for consumer c, whose exit reading is `read`.
-fn settle_one(
+fn settle_one<'a>(
     n: usize,
     rank: &[u64; 128],
-    delivered: &[u64; 128],
-    gap: &[u64; 128],
+    delivered: &'a [u64; 128],
+    gap: &'a [u64; 128],
     c: usize,
     read: u64,
 ) -> Share
@@ -61,8 +61,6 @@ fn settle_all(n: usize, m: usize, rank: &[u64; 128], figures: Delivered, exit: [
     ensures { λ r. ⌜ AllSettled n (cell 8 16 (now (rank .entry))) figures (place 16 exit) m r ⌝ }
 {
     let loss = figures.loss;
-    let delivered = figures.delivered;
-    let gap = figures.gap;
     let unaccounted = figures.unaccounted;
     let zeros = [0u64; 128];
     let remainder = [0u64; 16];
@@ -76,7 +74,14 @@ fn settle_all(n: usize, m: usize, rank: &[u64; 128], figures: Delivered, exit: [
     };
     let mut c: usize = 0;
     while c < m {
-        let share = settle_one(n, rank, &delivered, &gap, c, lists::wide(exit[c]));
+        let share = settle_one(
+            n,
+            rank,
+            &figures.delivered,
+            &figures.gap,
+            c,
+            lists::wide(exit[c]),
+        );
         let taken = share.setoff;
         arrays::put_column(&mut out.setoff, c, taken);
         let kept = share.underdrawn;
@@ -89,13 +94,13 @@ fn settle_all(n: usize, m: usize, rank: &[u64; 128], figures: Delivered, exit: [
     out
 }
 
-pub fn settle_block(
+pub fn settle_block<'a>(
     n: usize,
     m: usize,
     kind: [u64; 8],
-    kw: &[u64; 128],
-    loss: &[u64; 128],
-    rank: &[u64; 128],
+    kw: &'a [u64; 128],
+    loss: &'a [u64; 128],
+    rank: &'a [u64; 128],
     entry: [u32; 8],
     exit: [u32; 16],
 ) -> Lists

@@ -40,24 +40,24 @@ any-outside-requires-2 c κs = omega (arith, fitting (c .before .before .before 
 terms-fit-requires : tie.Need-terms-fit-requires
 terms-fit-requires c κs = search needs
 
-refusal-requires : tie.Need-refusal-requires
-refusal-requires c κs = search needs
+first-requires : tie.Need-first-requires
+first-requires c κs = search needs
 
-refusal-requires-2 : tie.Need-refusal-requires-2
-refusal-requires-2 c κs = search needs
+first-requires-2 : tie.Need-first-requires-2
+first-requires-2 c κs = search needs
 
-refusal-requires-3 : tie.Need-refusal-requires-3
-refusal-requires-3 c κs = search needs
+first-requires-3 : tie.Need-first-requires-3
+first-requires-3 c κs = search needs
 
-refusal-requires-4 : tie.Need-refusal-requires-4
-refusal-requires-4 c κs = search needs
+first-requires-4 : tie.Need-first-requires-4
+first-requires-4 c κs = search needs
 
 returns : tie.Need-returns
 returns c = let f = c .before .before .before .before in let t = f .before .before .before .before .before .before in
     opening-number _ _ _ _ _ _ _ (sym (t .before .sizes-fit .ensures) ∙ t .if1 .taken)
     (f .before .before .before .before .before .column-over .ensures) (f .before .before .before .before .column-over2 .ensures) (f .before .before .before .column-over3 .ensures)
     (f .before .before .any-outside .ensures) (f .before .any-outside2 .ensures) (f .terms-fit .ensures)
-    (c .before .before .before .refusal .ensures) (c .before .before .refusal2 .ensures) (c .before .refusal3 .ensures) (c .refusal4 .ensures)
+    (c .before .before .before .first .ensures) (c .before .before .first2 .ensures) (c .before .first3 .ensures) (c .first4 .ensures)
 
 returns-2 : tie.Need-returns-2
 returns-2 c = sym (opening-misfit _ _ _ _ _ _ _ (sym (c .before .sizes-fit .ensures) ∙ c .if1 .left))
@@ -74,9 +74,9 @@ opening-refusal-spec =
     any-outside-requires
     any-outside-requires-2
     terms-fit-requires
-    refusal-requires
-    refusal-requires-2
-    refusal-requires-3
-    refusal-requires-4
+    first-requires
+    first-requires-2
+    first-requires-3
+    first-requires-4
     returns
     returns-2)

@@ -21,29 +21,29 @@ is-sound-requires : tie.Need-is-sound-requires
 is-sound-requires c κs = search needs
 
 -- the record is sound, in the first branch
-passed : (c : tie.Then1) → sound (figures (c .before .before .before .before .args .r)) ≡ true
+passed : (c : tie.Then1) → sound (figures (c .before .before .before .before .args .t1)) ≡ true
 passed c = sym (c .before .is-sound .ensures) ∙ c .if1 .taken
 
-high : (c : tie.Then1) → let t = c .before .before .before .before .args .r .terms in (t .generators ≤ 8) × (t .consumers ≤ 16)
+high : (c : tie.Then1) → let t = c .before .before .before .before .args .t1 .terms in (t .generators ≤ 8) × (t .consumers ≤ 16)
 unfolding figures planOf
 high c = let f = record-facts _ (passed c) .counts in (f .G-high, f .C-high)
 
 -- the code's number is that of the rules
-number : (c : tie.After-schedule-refusal) → let a = c .before .before .before .before .before .before .before .before .before .before .args in c .schedule-refusal .result ≡ scheduleRefusal (a .kws .now) (a .ranks .now) (figures (a .r))
+number : (c : tie.After-schedule-refusal) → let a = c .before .before .before .before .before .before .before .before .before .args in c .schedule-refusal .result ≡ scheduleRefusal (a .kws .now) (a .ranks .now) (figures (a .t1))
 number c = c .schedule-refusal .ensures ∙ refusal-figures _ _ _
 
-none : (c : tie.Then2) → let a = c .before .before .before .before .before .before .before .before .before .before .before .args in scheduleRefusal (a .kws .now) (a .ranks .now) (figures (a .r)) ≡ 0
+none : (c : tie.Then2) → let a = c .before .before .before .before .before .before .before .before .before .before .args in scheduleRefusal (a .kws .now) (a .ranks .now) (figures (a .t1)) ≡ 0
 none c = sym (number (c .before)) ∙ c .if2 .taken
 
-sizes : (c : tie.Then2) → let a = c .before .before .before .before .before .before .before .before .before .before .before .args in let t = a .r .terms in
+sizes : (c : tie.Then2) → let a = c .before .before .before .before .before .before .before .before .before .before .args in let t = a .t1 .terms in
     (length (a .kws .now) ≡ t .generators * t .consumers) × (length (a .ranks .now) ≡ t .generators * t .consumers)
 unfolding figures planOf
 sizes c = let s = accepted-schedulable _ _ _ (none c) in (s .kws-size, s .ranks-size)
 
 -- Each array of a record has its length. `search` would find this too, but enters too few parts of so large a record.
-shaped : (c : tie.Start) → Shape (c .args .r)
+shaped : (c : tie.Start) → Shape (c .args .t1)
 shaped c =
-    let r = c .args .r in
+    let r = c .args .t1 in
     let agreed = c .good .0 .1 .1 .1 .1 .0 .1 .1 in
     let links = c .good .0 .1 .1 .1 .1 .1 .0 .1 .1 in
     let schedule = c .good .0 .1 .1 .1 .1 .1 .1 .0 .1 .1 in
@@ -83,18 +83,18 @@ shaped c =
     }
 
 schedule-refusal-requires : tie.Need-schedule-refusal-requires
-schedule-refusal-requires c κs = high (c .before .before .before .before .before)
+schedule-refusal-requires c κs = high (c .before .before .before .before)
 
 schedule-from-requires : tie.Need-schedule-from-requires
-schedule-from-requires c κs = let h = high (c .before .before .before .before .before .before .before) in let s = sizes c in
+schedule-from-requires c κs = let h = high (c .before .before .before .before .before .before) in let s = sizes c in
     (record { fits = omega (arith, s .0); few-rows = h .0; few = h .1 }, record { fits = omega (arith, s .1); few-rows = h .0; few = h .1 })
 
 returns : tie.Need-returns
 unfolding withSchedule
-returns c = schedule-accepted _ _ _ (passed (c .before .before .before .before .before .before .before .before)) (shaped (c .before .before .before .before .before .before .before .before .before .before .before .before)) (none (c .before)) (c .schedule-from .ensures)
+returns c = schedule-accepted _ _ _ (passed (c .before .before .before .before .before .before .before)) (shaped (c .before .before .before .before .before .before .before .before .before .before .before)) (none (c .before)) (c .schedule-from .ensures)
 
 returns-2 : tie.Need-returns-2
-returns-2 c = schedule-refused _ _ _ (passed (c .before .before .before .before .before .before .before)) (number (c .before)) (c .if2 .left)
+returns-2 c = schedule-refused _ _ _ (passed (c .before .before .before .before .before .before)) (number (c .before)) (c .if2 .left)
 
 returns-3 : tie.Need-returns-3
 returns-3 c = schedule-unsound _ _ _ (sym (c .before .is-sound .ensures) ∙ c .if1 .left)

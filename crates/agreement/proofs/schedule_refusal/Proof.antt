@@ -28,19 +28,19 @@ over-capacity-requires c κs = rows (c .before)
 any-outside-requires : tie.Need-any-outside-requires
 any-outside-requires c κs = omega (arith, sizes (c .before .before) .1)
 
-refusal-requires : tie.Need-refusal-requires
-refusal-requires c κs = search needs
+first-requires : tie.Need-first-requires
+first-requires c κs = search needs
 
-refusal-requires-2 : tie.Need-refusal-requires-2
-refusal-requires-2 c κs = search needs
+first-requires-2 : tie.Need-first-requires-2
+first-requires-2 c κs = search needs
 
-refusal-requires-3 : tie.Need-refusal-requires-3
-refusal-requires-3 c κs = search needs
+first-requires-3 : tie.Need-first-requires-3
+first-requires-3 c κs = search needs
 
 returns : tie.Need-returns
 returns c = let a = c .before .before .before in
     schedule-number _ _ _ _ _ _ (a .before .before .before .if1 .taken) (a .before .before .off-link .ensures) (a .before .over-capacity .ensures) (a .any-outside .ensures)
-    (c .before .before .refusal .ensures) (c .before .refusal2 .ensures) (c .refusal3 .ensures)
+    (c .before .before .first .ensures) (c .before .first2 .ensures) (c .first3 .ensures)
 
 returns-2 : tie.Need-returns-2
 returns-2 c = sym (schedule-misfit _ _ _ _ _ _ (c .if1 .left))
@@ -53,8 +53,8 @@ schedule-refusal-spec =
     off-link-requires
     over-capacity-requires
     any-outside-requires
-    refusal-requires
-    refusal-requires-2
-    refusal-requires-3
+    first-requires
+    first-requires-2
+    first-requires-3
     returns
     returns-2)

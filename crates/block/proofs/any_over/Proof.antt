@@ -1,5 +1,5 @@
 -- `block::any_over` meets its contract: the search finds a reading over the limit where there is one.
-use mathlib.Core.Path.{refl}
+use mathlib.Core.Path.{ap}
 use Rattle.block.specs.Refusals.{overLimit}
 use Rattle.energy.specs.Limits.{mostReading}
 use Rattle.lists.specs.Tests.{Looking, look-start, look-step, look-done}
@@ -19,11 +19,14 @@ abbrev μ-loop : tie.MeasureT-loop
 loop-holds : tie.Need-loop-holds Inv-loop μ-loop
 loop-holds c = look-start
 
-mul-found : tie.Need-mul-found Inv-loop μ-loop
-mul-found c = search needs
+mul-wide : tie.Need-mul-wide Inv-loop μ-loop
+mul-wide c = search needs
 
-shared-slice-read-found : tie.Need-shared-slice-read-found Inv-loop μ-loop
-shared-slice-read-found c = search needs
+shared-slice-read-wide : tie.Need-shared-slice-read-wide Inv-loop μ-loop
+shared-slice-read-wide c = search needs
+
+wide-requires : tie.Need-wide-requires Inv-loop μ-loop
+wide-requires c κs = search needs
 
 add-i : tie.Need-add-i Inv-loop μ-loop
 add-i c = search needs
@@ -32,7 +35,7 @@ loop-less : tie.Need-loop-less Inv-loop μ-loop
 loop-less c = search needs
 
 loop-again : tie.Need-loop-again Inv-loop μ-loop
-loop-again c = look-step (c .before .before .loop .inv) (search needs) refl
+loop-again c = look-step (c .before .before .before .loop .inv) (search needs) (ap (ltb mostReading) (c .wide .ensures))
 
 returns : tie.Need-returns Inv-loop μ-loop
 unfolding overLimit
@@ -45,8 +48,9 @@ any-over-spec =
     Inv-loop
     μ-loop
     loop-holds
-    mul-found
-    shared-slice-read-found
+    mul-wide
+    shared-slice-read-wide
+    wide-requires
     add-i
     loop-less
     loop-again

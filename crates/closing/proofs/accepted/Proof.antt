@@ -2,19 +2,20 @@
 use lib.ListN.{length-map}
 use mathlib.Core.Path.{_∙_}
 use Rattle.record.specs.Shape.{Shape}
+use Rattle.closing.specs.Output.{monthWritten}
 use Rattle.closing.specs.Accepted.{generators-few, consumers-few, output-size, closable, record-room, record-after, output-after}
 use borrow.Author.Needs.{needs}
 use Rattle.closing.proofs.accepted.Statement.{statement}
 use Rattle.closing.proofs.accepted.Tie as tie
 
 steps-requires : tie.Need-steps-requires
-steps-requires c κs = closable _ _ (c .before .before .before .before .pre)
+steps-requires c κs = closable _ _ (c .before .before .before .pre)
 
-write-output-requires : tie.Need-write-output-requires
-write-output-requires c κs = let z = c .before .before .before .before .before .before .pre in record { size = output-size _ _ z; rows = generators-few _ _ z; columns = consumers-few _ _ z }
+write-lists-requires : tie.Need-write-lists-requires
+write-lists-requires c κs = let z = c .before .before .before .before .before .before .before .before .before .before .before .pre in record { size = output-size _ _ z; rows = generators-few _ _ z; columns = consumers-few _ _ z }
 
 after-closing-requires : tie.Need-after-closing-requires
-after-closing-requires c κs = record-room _ _ (c .before .before .before .before .before .before .before .before .before .pre) _ (c .before .before .before .before .steps .ensures)
+after-closing-requires c κs = record-room _ _ (c .before .before .before .before .before .before .before .before .before .before .before .before .before .before .pre) _ (c .before .before .before .before .before .before .before .before .before .before .steps .ensures)
 
 same-length : tie.Need-same-length
 same-length c = search needs
@@ -52,12 +53,13 @@ shape c =
     }
 
 returns : tie.Need-returns
+unfolding monthWritten
 returns c =
-    let s = c .before .before .before .before .before .before .before .before .before .before in
-    let x = c .before .before .before .before .before .steps .ensures in
-    record { record-is = c .after-closing .ensures ∙ record-after _ _ (s .pre) _ x (shape s); output-is = c .before .before .before .write-output .ensures ∙ output-after _ _ (s .pre) _ x }
+    let s = c .before .before .before .before .before .before .before .before .before .before .before .before .before .before .before in
+    let x = c .before .before .before .before .before .before .before .before .before .before .before .steps .ensures in
+    record { record-is = c .after-closing .ensures ∙ record-after _ _ (s .pre) _ x (shape s); output-is = c .before .before .before .write-lists .ensures ∙ output-after _ _ (s .pre) _ x }
 
 pub accepted-spec : {M : Type 1} → statement M
 accepted-spec =
     tie.close
-    (tie.spec steps-requires write-output-requires after-closing-requires same-length returns)
+    (tie.spec steps-requires write-lists-requires after-closing-requires same-length returns)

@@ -16,7 +16,7 @@ consumers-after-requires c κs = search needs
 returns : tie.Need-returns
 unfolding recordAfterClosing
 returns c =
-    let r = c .before .before .before .before .before .before .before .before .before .before .args .r in
+    let r = c .before .before .before .before .before .before .before .args .r in
     λ i. record { terms = r .terms; counts = record { gone = c .before .before .months-gone .ensures i; blocks = r .counts .blocks; month = 0 }; agreed = r .agreed; links = r .links; schedule = r .schedule; generators = c .before .generators-after .ensures i; consumers = c .consumers-after .ensures i }
 
 pub after-closing-spec : {M : Type 1} → statement M

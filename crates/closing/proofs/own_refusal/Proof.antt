@@ -1,4 +1,5 @@
 -- `closing::own_refusal` meets its contract: the tests in their order give the number of the first that applies.
+use mathlib.Core.Path.{_∙_}
 use native.Mathlib.Nat.{mul-le-mul}
 use native.Mathlib.Omega.{arith}
 use Rattle.closing.specs.Refusals.{ownRefusal}
@@ -29,7 +30,7 @@ first-requires-2 c κs = search needs
 
 returns : tie.Need-returns
 unfolding ownRefusal
-returns c = cc
+returns c = c .first2 .ensures ∙ rw (c .before .first .ensures)
 
 pub own-refusal-spec : {M : Type 1} → statement M
 own-refusal-spec =

@@ -17,7 +17,7 @@ lapse-requires : tie.Need-lapse-requires
 lapse-requires c κs = search needs
 
 returns : tie.Need-returns
-returns c = steps-are (c .before .before .before .before .before .before .before .before .before .before .before .before .before .before .before .before .before .before .before .before .before .before .before .before .before .args .r) (c .before .before .before .before .before .before .before .before .before .before .before .before .before .credit .ensures) (c .before .before .before .before .before .before .before .before .draw-all .ensures) (c .before .before .before .before .cycle-ends .ensures) (c .before .before .before .lapse .ensures)
+returns c = steps-are (c .before .before .before .before .before .before .before .before .before .before .before .before .before .before .before .before .before .before .before .before .args .t1) (c .before .before .before .before .before .before .before .before .before .before .before .before .before .before .credit .ensures) (c .before .before .before .before .before .before .before .before .draw-all .ensures) (c .before .before .before .before .cycle-ends .ensures) (c .before .before .before .lapse .ensures)
 
 pub steps-spec : {M : Type 1} → statement M
 steps-spec =

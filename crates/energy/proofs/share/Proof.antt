@@ -10,9 +10,12 @@ use Rattle.energy.proofs.share.Tie as tie
 total-requires : tie.Need-total-requires
 total-requires c κs = search needs
 
+wide-requires : tie.Need-wide-requires
+wide-requires c κs = search needs
+
 returns : tie.Need-returns
 unfolding table
-returns c = shared-over-energy _ _ (omega arith)
+returns c = shared-over-energy _ _ (omega (arith, c .before .wide .ensures))
 
 returns-2 : tie.Need-returns-2
 unfolding table
@@ -30,4 +33,4 @@ returns-4 c = c .parts .ensures ∙ shared-within _ _ (search needs) (omega arit
 
 pub share-spec : {M : Type 1} → statement M
 share-spec =
-    tie.close (tie.spec total-requires returns returns-2 returns-3 parts-requires returns-4)
+    tie.close (tie.spec total-requires wide-requires returns returns-2 returns-3 parts-requires returns-4)

@@ -9,28 +9,28 @@ use Rattle.record.proofs.is_sound.Tie as tie
 counts-sound-requires : tie.Need-counts-sound-requires
 counts-sound-requires c κs = search needs
 
-passed : (c : tie.Then1) → countsTest (c .before .before .before .before .args .r .terms) (c .before .before .before .before .args .r .counts) ≡ true
+passed : (c : tie.Then1) → countsTest (c .before .before .before .before .args .t1 .terms) (c .before .before .before .before .args .t1 .counts) ≡ true
 passed c = sym (c .before .counts-sound .ensures) ∙ c .if1 .taken
 
-fit : (c : tie.Then1) → CountsFit (c .before .before .before .before .args .r .terms .consumers) (c .before .before .before .before .args .r .counts .blocks)
+fit : (c : tie.Then1) → let r = c .before .before .before .before .args .t1 in CountsFit (r .terms .generators) (r .terms .consumers) (r .counts .blocks)
 fit c = counts-fit _ _ (passed c)
 
 agreed-all-sound-requires : tie.Need-agreed-all-sound-requires
-agreed-all-sound-requires c κs = fit (c .before .before .before .before .before .before .before) .consumers-fit
+agreed-all-sound-requires c κs = fit (c .before .before .before .before .before) .consumers-fit
 
 pairs-sound-requires : tie.Need-pairs-sound-requires
-pairs-sound-requires c κs = search needs
+pairs-sound-requires c κs = let f = fit (c .before .before .before .before .before .before .before .before .before .before .before) in (f .generators-fit, f .consumers-fit)
 
 generators-sound-requires : tie.Need-generators-sound-requires
-generators-sound-requires c κs = fit (c .before .before .before .before .before .before .before .before .before) .blocks-fit
+generators-sound-requires c κs = fit (c .before .before .before .before .before .before .before .before .before .before .before .before) .blocks-fit
 
 consumers-sound-requires : tie.Need-consumers-sound-requires
-consumers-sound-requires c κs = fit (c .before .before .before .before .before .before .before .before .before .before) .blocks-fit
+consumers-sound-requires c κs = fit (c .before .before .before .before .before .before .before .before .before .before .before .before .before) .blocks-fit
 
 returns : tie.Need-returns
 returns c =
-    sound-by-parts _ (passed (c .before .before .before .before .before .before .before .before .before .before .before))
-    (c .before .before .before .agreed-all-sound .ensures)
+    sound-by-parts _ (passed (c .before .before .before .before .before .before .before .before .before .before .before .before .before .before))
+    (c .before .before .before .before .before .before .before .before .agreed-all-sound .ensures)
     (c .before .before .pairs-sound .ensures)
     (c .before .generators-sound .ensures)
     (c .consumers-sound .ensures)

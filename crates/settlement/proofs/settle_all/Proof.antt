@@ -10,12 +10,10 @@ use Rattle.settlement.proofs.settle_all.Statement.{statement}
 use Rattle.settlement.proofs.settle_all.Tie as tie
 
 abbrev Inv-loop : tie.InvT-loop
-Inv-loop n m rank exit delivered gap out₀ c₀ out c =
-    AllSettled n (cell 8 16 rank) (record { loss = out₀ .loss; delivered = delivered; gap = gap; unaccounted = out₀ .unaccounted }) (place 16 exit) c out
-    × (c ≤ m)
+Inv-loop n m rank figures exit out₀ c₀ out c = AllSettled n (cell 8 16 rank) figures (place 16 exit) c out × (c ≤ m)
 
 abbrev μ-loop : tie.MeasureT-loop
-μ-loop n m rank exit delivered gap out₀ c₀ out c = m - c
+μ-loop n m rank figures exit out₀ c₀ out c = m - c
 
 loop-holds : tie.Need-loop-holds Inv-loop μ-loop
 loop-holds c = (all-start _ _ _ _, search needs)
@@ -58,9 +56,9 @@ loop-again c =
     let second = c .before .before .before in
     let first = second .before .before .before in
     let one = first .before .before .before in
-    let turn = one .before .before .before .before in
+    let turn = one .before .before .before .before .before in
     let l = turn .before .loop in
-    let b : l .c < 16 = omega (arith, turn .loop-test .taken, turn .before .before .before .before .before .before .pre .1) in
+    let b : l .c < 16 = omega (arith, turn .loop-test .taken, turn .before .before .before .before .pre .1) in
     let read = one .before .wide .ensures ∙ sym (place-in 16 _ _ b) in (
       all-step _ _ _ _ (l .inv .0) b read (one .«settle-one» .ensures) (first .put-column .ensures) (second .put-column2 .ensures) (c .put-column3 .ensures),
       omega (arith, turn .loop-test .taken),
@@ -69,7 +67,7 @@ loop-again c =
 returns : tie.Need-returns Inv-loop μ-loop
 returns c =
     let l = c .before .loop in
-    let e : l .c ≡ c .before .before .before .before .before .before .args .m = omega arith in
+    let e : l .c ≡ c .before .before .before .before .args .m = omega arith in
     rw e at (l .inv .0)
 
 pub settle-all-spec : {M : Type 1} → statement M
