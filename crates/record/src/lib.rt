@@ -6,7 +6,7 @@ ghost use lib.Dec.{ltb};
 ghost use lib.ListN.{length};
 ghost use Rattle.lists.specs.Tests.{all, within};
 ghost use Rattle.energy.specs.Limits.{mostGenerators, mostConsumers, mostUnitBlocks};
-ghost use Rattle.record.specs.Stored.{figures};
+ghost use Rattle.record.specs.Stored.{recordFrom, figures};
 ghost use Rattle.record.specs.Sound.{limit, agreedSound, pairSound, generatorSound, consumerSound, sound};
 ghost use Rattle.record.specs.Capped.{Clipped, RowTotal};
 ghost use Rattle.record.specs.SoundTests.{countsTest, agreedTest, zeroAt, pairRead, pairTest, generatorTest, consumerTest};
@@ -384,31 +384,50 @@ fn consumers_sound(t: Consumers, m: usize, blocks: u64) -> bool
     ok
 }
 
-// the arrays are lent where they lie: a record is large
-pub fn is_sound(r: Record) -> bool
-    ensures { λ b. ⌜ b ≡ sound (figures r) ⌝ }
+// The test of a record by its parts; the pair lists, most of a record, are lent where they lie.
+pub fn parts_sound<'a>(
+    terms: Terms,
+    counts: Counts,
+    agreed: Agreed,
+    link: &'a [u64; 128],
+    loss: &'a [u64; 128],
+    kw: &'a [u64; 128],
+    rank: &'a [u64; 128],
+    generators: Generators,
+    consumers: Consumers,
+) -> bool
+    ensures { λ b. ⌜ b ≡ sound (figures (recordFrom terms counts agreed (now (link .entry)) (now (loss .entry)) (now (kw .entry)) (now (rank .entry)) generators consumers)) ⌝ }
 {
-    let terms = r.terms;
-    let counts = r.counts;
     if counts_sound(terms, counts) {
         let n = terms.generators as usize;
         let m = terms.consumers as usize;
         let blocks = counts.blocks;
-        let agreed = r.agreed;
-        let generators = r.generators;
-        let consumers = r.consumers;
-        agreed_all_sound(agreed, &r.schedule.kw, n, m)
-            & pairs_sound(
-                &r.links.link,
-                &r.links.loss,
-                &r.schedule.kw,
-                &r.schedule.rank,
-                n,
-                m,
-            )
+        agreed_all_sound(agreed, kw, n, m)
+            & pairs_sound(link, loss, kw, rank, n, m)
             & generators_sound(generators, n, blocks)
             & consumers_sound(consumers, m, blocks)
     } else {
         false
     }
+}
+
+pub fn is_sound(r: Record) -> bool
+    ensures { λ b. ⌜ b ≡ sound (figures r) ⌝ }
+{
+    let terms = r.terms;
+    let counts = r.counts;
+    let agreed = r.agreed;
+    let generators = r.generators;
+    let consumers = r.consumers;
+    parts_sound(
+        terms,
+        counts,
+        agreed,
+        &r.links.link,
+        &r.links.loss,
+        &r.schedule.kw,
+        &r.schedule.rank,
+        generators,
+        consumers,
+    )
 }
