@@ -533,9 +533,10 @@ static size_t maybe_altered_length(size_t bytes)
 {
     if (below(24) != 0)
         return bytes;
+    size_t less = 1 + below(8);
     switch (below(4)) {
     case 0: return 0;
-    case 1: return bytes - 1 - below(8);
+    case 1: return less < bytes ? bytes - less : 0;
     case 2: return bytes + 1 + below(MARGIN);
     default: return bytes - 4;
     }
