@@ -1,0 +1,147 @@
+#!/usr/bin/env python3
+"""The header's sizes, numbers and places are document 01's, as the second engine has them.
+
+    header.py ARCHIVE
+
+A program that prints every macro of the header is made from the header itself, so that none is left
+out, and compiled as C and as C++ without a warning. It also makes the four calls with null
+pointers. Then stack.c shows that no call touches more stack than the header says.
+"""
+
+import os
+import re
+import subprocess
+import sys
+import tempfile
+
+from second.engine import (CONSUMER_PLACES, GENERATOR_PLACES, RECORD_BYTES, RECORD_FORM,
+                           RECORD_WORDS, Engine, Record, record_from_bytes)
+
+HEADER = "include/wheeling.h"
+COMPILERS = (("gcc", "c99", ".c"), ("g++", "c++98", ".cpp"), ("g++", "c++17", ".cpp"))
+STRICT = ("-O1", "-Wall", "-Wextra", "-pedantic", "-Werror", "-Iinclude")
+
+# The names of document 01's numbers, from 0.
+NUMBERS = ("ACCEPTED", "NOT_SOUND", "WRONG_SIZE", "WRONG_KIND", "WRONG_CAPACITY", "WRONG_LINK",
+           "WRONG_TERMS", "NOT_LINKED", "OVER_CAPACITY", "WRONG_RANK", "READING_TOO_HIGH",
+           "MONTH_FULL", "UNIT_FULL", "MONTH_EMPTY")
+# What the four calls return for null pointers; opening has 1 generator and 1 consumer.
+NULL_CALLS = {"open(1, 1, 0, 1, 0, NULL, 0, NULL, 0, NULL, 0)": 2,
+              "schedule(NULL, 0, NULL, 0, NULL, 0)": 1,
+              "block(NULL, 0, NULL, 0, NULL, 0, NULL, 0)": 1, "close(NULL, 0, NULL, 0)": 1}
+
+# Each word of this record is its own place.
+PLACES = record_from_bytes(RECORD_FORM.pack(*range(RECORD_WORDS)))
+
+
+def macros():
+    """[(name without WHEELING_, its arguments)]. Every macro has a value but the include guard."""
+    text = open(HEADER, encoding="utf-8").read()
+    found = re.findall(r"^#define WHEELING_(\w+)(?:\((g|c|g, c)\))? \S", text, flags=re.MULTILINE)
+    if len(found) != len(re.findall(r"^\s*#\s*define", text, flags=re.MULTILINE)) - 1:
+        sys.exit("header: a macro is not understood")
+    return [(name, arguments.split(", ") if arguments else []) for name, arguments in found]
+
+
+def places(arguments, name):
+    """The values that the arguments take: G and C in a size, numbers from 0 in a place."""
+    first = 0 if name.startswith("AT_") else 1
+    return [range(first, first + (most if letter in arguments else 1))
+            for letter, most in (("g", GENERATOR_PLACES), ("c", CONSUMER_PLACES))]
+
+
+def program(names):
+    lines = ["#include <wheeling.h>", "#include <wheeling.h>", "#include <stdio.h>",
+             "int main(void)", "{"]
+    for name, arguments in names:
+        for g in places(arguments, name)[0]:
+            for c in places(arguments, name)[1]:
+                given = ", ".join(str({"g": g, "c": c}[letter]) + "u" for letter in arguments)
+                call = f"WHEELING_{name}" + (f"({given})" if given else "")
+                lines.append(f'    printf("{name} {g} {c} %lu\\n", (unsigned long){call});')
+    for call in NULL_CALLS:
+        lines.append(f'    printf("{call} %lu\\n", (unsigned long)wheeling_{call});')
+    return "\n".join(lines + ["    return 0;", "}", ""])
+
+
+def size(name, G, C):
+    unit = Record()
+    unit.generators, unit.consumers = G, C
+    return {"RECORD": RECORD_BYTES,
+            "GENERATOR_LIST": 4 * 3 * G, "PAIR_LIST": 4 * 2 * G * C,
+            "KW_LIST": 4 * G * C, "RANK_LIST": 4 * G * C,
+            "ENTRY_LIST": 4 * G, "EXIT_LIST": 4 * C,
+            "BLOCK_OUTPUT": 8 * Engine().block_output_length(unit),
+            "CLOSE_OUTPUT": 8 * Engine().closing_output_length(unit)}[name]
+
+
+def place(name, g, c):
+    """Where the figure stands, in bytes."""
+    value = getattr(PLACES, name.lower())
+    while isinstance(value, list):
+        value = value[g if len(value) == GENERATOR_PLACES else c]
+    return 8 * value
+
+
+def expected(name, g, c):
+    if name in NUMBERS:
+        return NUMBERS.index(name)
+    if name.startswith("AT_"):
+        return place(name[len("AT_"):], g, c)
+    if name in ("MOST_GENERATORS", "MOST_CONSUMERS"):
+        return getattr(Engine, name)
+    if name.startswith("MOST_"):
+        g, c = Engine.MOST_GENERATORS, Engine.MOST_CONSUMERS
+    return size(re.fullmatch(r"(?:MOST_)?(\w+)_BYTES", name)[1], g, c)
+
+
+def expected_lines(names):
+    lines = [f"{name} {g} {c} {expected(name, g, c)}" for name, arguments in names
+             for g in places(arguments, name)[0] for c in places(arguments, name)[1]
+             if name != "STACK_BYTES"]
+    return lines + [f"{call} {number}" for call, number in NULL_CALLS.items()]
+
+
+def run_program(compiler, standard, source, archive, folder):
+    """Whether it could be built and ended with 0, and what it printed."""
+    binary = os.path.join(folder, "program")
+    command = [compiler, f"-std={standard}", *STRICT, "-o", binary, source, archive]
+    if subprocess.run(command, check=False).returncode != 0:
+        return False, ""
+    done = subprocess.run([binary], stdout=subprocess.PIPE, check=False, text=True)
+    return done.returncode == 0, done.stdout
+
+
+def main():
+    if len(sys.argv) != 2:
+        print(__doc__)
+        return 2
+    archive = sys.argv[1]
+    names = macros()
+    failed = 0
+    figures = {name[len("AT_"):].lower() for name, _ in names if name.startswith("AT_")}
+    if figures != set(Record.__slots__) or not set(NUMBERS) < {name for name, _ in names}:
+        print(f"header: FAILED: not all are there, or too many: {figures ^ set(Record.__slots__)}")
+        failed += 1
+    with tempfile.TemporaryDirectory() as folder:
+        for compiler, standard, ending in COMPILERS:
+            source = os.path.join(folder, "macros" + ending)
+            with open(source, "w", encoding="utf-8") as file:
+                file.write(program(names))
+            good, printed = run_program(compiler, standard, source, archive, folder)
+            lines = [line for line in printed.splitlines() if not line.startswith("STACK_BYTES")]
+            if not good or lines != expected_lines(names):
+                failed += 1
+                print(f"header: FAILED: {compiler} -std={standard}; lines that differ:",
+                      *sorted(set(lines) ^ set(expected_lines(names)))[:8], sep="\n    ")
+        good, printed = run_program("gcc", "c99", "tests/stack.c", archive, folder)
+        print(printed, end="")
+        if not good:
+            failed += 1
+            print("header: FAILED: tests/stack.c")
+    print(f"header: {len(names)} macros, {len(expected_lines(names))} values, {failed} failed")
+    return 1 if failed else 0
+
+
+if __name__ == "__main__":
+    sys.exit(main())
