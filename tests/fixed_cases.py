@@ -8,8 +8,9 @@ from itertools import combinations
 
 from second.calls import (Call, SecondUnit, block_call, close_call, new_record_call, open_call,
                           packed, schedule_call, write_call)
-from second.engine import (CONSUMER_PLACES, GENERATOR_PLACES, RECORD_BYTES, RECORD_FORM,
-                           RECORD_WORDS, Engine, record_from_bytes, record_to_bytes)
+from second.engine import (CONSUMER_PLACES, CONSUMER_TERMS, GENERATOR_PLACES, GENERATOR_TERMS,
+                           RECORD_BYTES, RECORD_FORM, RECORD_WORDS, Engine, record_from_bytes,
+                           record_to_bytes)
 from second.paper_cases import CASES, REFUSAL_EXAMPLES, with_counts
 
 KW_LIMIT = 400_000
@@ -263,9 +264,9 @@ def lengths_around(right):
                   - set(range(-8, 0)))
 
 
-def resized(data, length):
-    """Lengthened by 0 bytes, which are allowed values where the length is not."""
-    return (data + bytes(max(0, length - len(data))))[:length]
+def resized(data, length, more=b"\0"):
+    """Lengthened by 0 bytes, which are allowed values where the length is not, or by others."""
+    return (data + more * max(0, length - len(data)))[:length]
 
 
 def lengths():
@@ -304,6 +305,27 @@ def lengths():
         simple_unit(3, 2), simple_schedule(2, 2), block_call((1, 2), (3, 4, 5)),
         close_call(2, 3), simple_schedule(3, 2), block_call((1, 2, 3), (4, 5)), close_call(2, 3),
         close_call(3, 2)]
+
+
+def every_length(G, C, more):
+    """Each list and the record at every length from 0 to 9 more than any agreement has."""
+    unit = [simple_unit(G, C), simple_schedule(G, C),
+            block_call([50_000 + g for g in range(G)], [3_000 * c for c in range(C)])]
+    longest = [simple_unit(8, 16), simple_schedule(8, 16), block_call((1,) * 8, (2,) * 16),
+               close_call(8, 16)]
+    for call, most in zip(unit + [close_call(G, C)], longest):
+        for which, data in enumerate(call.lists):
+            calls = list(unit)
+            for length in range(len(most.lists[which]) + 10):
+                lists = list(call.lists)
+                lists[which] = resized(data, length, more)
+                calls.append(call._replace(lists=tuple(lists)))
+            yield f"{G} x {C}, every length of list {which + 1} of {call.name}", calls
+        if call.output_bytes is not None:
+            yield f"{G} x {C}, every length of the output of {call.name}", unit + [
+                call._replace(output_bytes=length) for length in range(most.output_bytes + 10)]
+        yield f"{G} x {C}, every length of the record of {call.name}", unit + [
+            call._replace(record_bytes=length) for length in range(RECORD_BYTES + 10)]
 
 
 # ---- Soundness ----
@@ -521,6 +543,34 @@ def unreached_records():
         yield f"last block of the oldest unit, rate {rate}", [
             new_record_call(record_to_bytes(record)), full, full, close_call(G, C), full]
 
+    # The largest unit at the limit of age, all of it in one term and then in the next.
+    G, C = GENERATOR_PLACES, CONSUMER_PLACES
+    unit = [simple_unit(G, C, kinds=(0, 1, 2, 3)), simple_schedule(G, C)]
+    everywhere = block_call((READING_LIMIT,) * G, (READING_LIMIT,) * C)
+    for place, term in enumerate(GENERATOR_TERMS[1:]):
+        consumer_term = CONSUMER_TERMS[1 + place % len(CONSUMER_TERMS[1:])]
+        for blocks in (UNIT_LIMIT - 1, UNIT_LIMIT):
+            record = after(unit)
+            record.unit_blocks, record.month_blocks = blocks, MONTH_LIMIT - 1
+            record.injected = [READING_LIMIT * blocks] * G
+            setattr(record, term, list(record.injected))
+            record.metered = [READING_LIMIT * blocks] * C
+            setattr(record, consumer_term, list(record.metered))
+            yield f"largest unit at block {blocks}, all in {term} and {consumer_term}", [
+                new_record_call(record_to_bytes(record)), everywhere, everywhere,
+                simple_schedule(G, C), close_call(G, C), close_call(G, C)]
+    record = after(unit)
+    record.unit_blocks, record.month_blocks = UNIT_LIMIT - 1, MONTH_LIMIT - 1
+    for terms, places in ((GENERATOR_TERMS, G), (CONSUMER_TERMS, C)):
+        total = READING_LIMIT * record.unit_blocks
+        part = total // len(terms[1:])
+        for term in terms[1:]:
+            setattr(record, term, [part] * places)
+        setattr(record, terms[-1], [total - part * len(terms[2:])] * places)
+        setattr(record, terms[0], [total] * places)
+    yield "largest unit at the limit of age, some in every term", [
+        new_record_call(record_to_bytes(record)), everywhere, close_call(G, C), everywhere]
+
     # A link may be cut under a bank, and a schedule stand that no opening gives.
     record = used_record(3, 2)
     record.link[0][1] = record.kw[0][1] = 0
@@ -584,3 +634,6 @@ def fixed_cases():
     yield from smaller_things()
     yield from full_months()
     yield from each_word_damaged()
+    # Last, since they are many and a wrong rule shows before.
+    yield from every_length(2, 3, b"\0")
+    yield from every_length(8, 16, b"\xff")
