@@ -17,6 +17,7 @@ import sys
 
 PREFIX = "wheeling_"
 NUMBERS = {"u8": "uint8_t", "u32": "uint32_t", "u64": "uint64_t", "usize": "size_t"}
+EXPORTED = r'#\[no_mangle\]\s*pub extern "C" fn (\w+)\s*\(([^()]*)\)\s*->\s*(\w+)'
 MEMORY_FUNCTIONS = {"memcpy", "memmove", "memset", "memcmp", "bcmp"}
 
 
@@ -63,8 +64,7 @@ def calls_of_source(text):
     """Likewise, in C's words: a slice is a pointer and a length in bytes."""
     text = re.sub(r"//.*", "", text)
     calls = {}
-    for name, arguments, result in re.findall(
-            r'#\[no_mangle\]\s*pub extern "C" fn (\w+)\s*\(([^()]*)\)\s*->\s*(\w+)', text):
+    for name, arguments, result in re.findall(EXPORTED, text):
         taken = []
         for argument in listed(arguments):
             argument_name, kind = match(r"(\w+)\s*:\s*(.*)", argument, "an argument")
@@ -154,7 +154,10 @@ ALTERATIONS = (
 
 
 def not_found(texts):
-    """The alterations that are not found, or that cannot be made."""
+    """The alterations that are not found, or that cannot be made. The source's other functions are
+    left out: one of them may have an argument of the same name."""
+    texts = list(texts)
+    texts[SOURCE] = "\n".join(found[0] for found in re.finditer(EXPORTED, texts[SOURCE]))
     for what, which, old, new in ALTERATIONS:
         altered = list(texts)
         altered[which], made = re.subn(old, new, texts[which], count=1)
