@@ -220,6 +220,8 @@ def bad_runs(host):
 WRONG_HOSTS = (
     ("the file is not synced", "fsync(file) != 0 || ", ""),
     ("the folder is not synced", " || fsync(unit->folder) != 0", ""),
+    ("the folder is not synced at the start", "if (fsync(unit->folder) != 0)\n        "
+     "stop(unit->path, strerror(errno));\n    return 1;", "return 1;"),
     ("the old file is written over", '"%s.new"', '"%s"'),
     ("a short write counts as whole", "done += (size_t)written;", "done = sizeof unit->record;"),
     ("a failed write is passed over", "if (written < 0)\n            stop(unit->new_path, "
@@ -233,23 +235,32 @@ def build_with_faults(archive, source, output):
                archive, "-Wl," + ",".join("--wrap=" + name for name in FILE_CALLS))
 
 
-def faulty_run(host, disk, fault, step):
-    """The status, and which file the host was writing when the power went."""
-    done = run(host, disk.path, input=SHORT_JOURNAL,
-               env={**os.environ, "FAULT": fault, "STEP": str(step)})
+def faulty_run(host, disk, fault, step, earlier=None):
+    """The status, and which file the host was writing when the power went. `earlier` is the record
+    that comes back if the folder is not synced: a host ended between the rename and that."""
+    settings = {"FAULT": fault, "STEP": str(step)}
+    if earlier is not None:
+        settings.update(RECORD=disk.path, EARLIER=disk.path + ".earlier")
+        with open(settings["EARLIER"], "wb") as file:
+            file.write(earlier)
+    done = run(host, disk.path, input=SHORT_JOURNAL, env={**os.environ, **settings})
     cut = re.search(rb"cut in file (\d+)", done.stderr)
     return done.returncode, int(cut[1]) if cut else None
 
 
-def wrong_after(host, made, started, fault, step):
+def wrong_after(host, made, started, renamed, fault, step):
     """What is wrong after one fault. The host is started on made[started] and saves the following
-    ones in turn; made[0] is None, no file."""
+    ones in turn; made[0] is None, no file. `renamed`: the first was renamed and not synced."""
     disk = Disk(made[started])
-    status, saving = faulty_run(host, disk, fault, step)
+    status, saving = faulty_run(host, disk, fault, step, made[started - 1] if renamed else None)
     if status != {"error": 1, "short": 0}.get(fault, CUT_STATUS):
         yield f"the host ends with {status}"
-    # The record before the one that was being saved, or that one.
-    kept = made if saving is None else made[started + max(saving - 1, 0):started + saving + 1]
+    # The record before the one that was being saved, or that one. Before the first is saved, the
+    # host has not acted on the record that it was started on.
+    kept = made
+    if saving is not None:
+        first = started + saving - (1 if saving or renamed else 0)
+        kept = made[first:started + saving + 1]
     if disk.record() not in kept:
         yield "a call that was acted on is lost, or the record is damaged"
     done = run(host, disk.path, input=SHORT_JOURNAL)
@@ -259,14 +270,14 @@ def wrong_after(host, made, started, fault, step):
 
 def all_wrong(host, made):
     """What is wrong after a fault at each step: from nothing, after the opening, and resumed."""
-    for started in (0, 1, 4):
+    for started, renamed in ((0, False), (1, False), (4, False), (4, True)):
         steps = 0
         while faulty_run(host, Disk(made[started]), "cut", steps + 1)[0] == CUT_STATUS:
             steps += 1
         counted["steps"] = counted.get("steps", 0) + steps
         for fault in (*CUTS, "error", "short"):
             for step in range(1, steps + 1):
-                for wrong in wrong_after(host, made, started, fault, step):
+                for wrong in wrong_after(host, made, started, renamed, fault, step):
                     yield f"{fault} at step {step} from record {started}: {wrong}"
 
 

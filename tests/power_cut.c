@@ -8,6 +8,8 @@
  *     cut-data    likewise, and what was written and not synced is lost
  *     cut-names   likewise, and renames after which the folder was not synced are lost
  *     cut-both    likewise, and both are lost
+ *   RECORD, EARLIER   where given, the file RECORD was renamed over the content of the file EARLIER before the host was
+ *           started, and the folder was not synced
  * A cut ends the program with 99, after printing how many files the host has begun to write. */
 #define _POSIX_C_SOURCE 200809L
 #include <errno.h>
@@ -37,10 +39,22 @@ static int is_fault(const char *name)
     return fault != NULL && strncmp(fault, name, strlen(name)) == 0;
 }
 
+static void remember_renamed(const char *to, const char *content)
+{
+    int file = __real_open(content, O_RDONLY, 0);
+    before_size = file < 0 ? -1 : __real_read(file, before, sizeof before);
+    if (file >= 0)
+        __real_close(file);
+    strcpy(renamed_to, to);
+    renamed = 1;
+}
+
 static int at_fault(void)
 {
     static long steps;
     const char *step = getenv("STEP");
+    if (steps == 0 && getenv("EARLIER") != NULL)
+        remember_renamed(getenv("RECORD"), getenv("EARLIER"));
     return ++steps == (step != NULL ? atol(step) : 0);
 }
 
@@ -130,13 +144,7 @@ int __wrap_rename(const char *from, const char *to)
 {
     if (fails())
         return -1;
-    if (!renamed) {
-        int file = __real_open(to, O_RDONLY, 0);
-        before_size = file < 0 ? -1 : __real_read(file, before, sizeof before);
-        if (file >= 0)
-            __real_close(file);
-        strcpy(renamed_to, to);
-        renamed = 1;
-    }
+    if (!renamed)
+        remember_renamed(to, to);
     return __real_rename(from, to);
 }
