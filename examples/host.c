@@ -122,7 +122,7 @@ static void save(const struct unit *unit)
         stop(unit->new_path, strerror(errno));
     for (size_t done = 0; done < sizeof unit->record;) {
         ssize_t written = write(file, unit->record + done, sizeof unit->record - done);
-        if (written < 0)
+        if (written <= 0)
             stop(unit->new_path, strerror(errno));
         done += (size_t)written;
     }

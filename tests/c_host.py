@@ -224,8 +224,8 @@ WRONG_HOSTS = (
      "stop(unit->path, strerror(errno));\n    return 1;", "return 1;"),
     ("the old file is written over", '"%s.new"', '"%s"'),
     ("a short write counts as whole", "done += (size_t)written;", "done = sizeof unit->record;"),
-    ("a failed write is passed over", "if (written < 0)\n            stop(unit->new_path, "
-     "strerror(errno));", "if (written < 0)\n            break;"),
+    ("a failed write is passed over", "if (written <= 0)\n            stop(unit->new_path, "
+     "strerror(errno));", "if (written <= 0)\n            break;"),
     ("a month is closed again", " && figure(unit, WHEELING_AT_MONTH_BLOCKS) > 0", ""),
 )
 
