@@ -4,7 +4,7 @@ ghost use Prim.Native.Nat.{_+_, _≤_, _<_};
 ghost use lib.ListN.{length};
 ghost use Rattle.codec.specs.Bytes.{encode, decode};
 ghost use Rattle.record.specs.Words.{words, recordOf};
-ghost use Rattle.layout.specs.Layout.{run, columnOf, Laid, termsRun, countsRun, agreedRun, linksRun, scheduleRun, generatorsRun, consumersRun};
+ghost use Rattle.layout.specs.Layout.{run, columnOf, Laid, termsRun, countsRun, agreedRun, linksRun, scheduleRun, generatorsRun, consumersRun, withTotals};
 
 // Where each part starts, counted in numbers.
 const TERMS: usize = 0;
@@ -13,9 +13,13 @@ const COUNTS: usize = 4;
 
 const AGREED: usize = 7;
 
-const LINKS: usize = 31;
+pub const LINK: usize = 31;
 
-const SCHEDULE: usize = 287;
+pub const LOSS: usize = 159;
+
+pub const KW: usize = 287;
+
+pub const RANK: usize = 415;
 
 const GENERATORS: usize = 543;
 
@@ -49,7 +53,8 @@ fn load16(s: &[u8], at: usize) -> [u64; 16]
     out
 }
 
-fn load128(s: &[u8], at: usize) -> [u64; 128]
+// A pair list.
+pub fn load_pairs(s: &[u8], at: usize) -> [u64; 128]
     requires { ⌜ (length (now s) ≡ 5752) × (at + 128 ≤ 719) ⌝ }
     ensures { λ r. ⌜ r ≡ run (decode 8 719 (now (s .entry))) 128 at ⌝ }
 {
@@ -72,7 +77,7 @@ fn column(rows: [u64; 24], k: usize) -> [u64; 8]
     out
 }
 
-fn load_terms(s: &[u8]) -> record::Terms
+pub fn load_terms(s: &[u8]) -> record::Terms
     requires { ⌜ length (now s) ≡ 5752 ⌝ }
     ensures { λ r. ⌜ r ≡ recordOf (decode 8 719 (now (s .entry))) .terms ⌝ }
 {
@@ -86,7 +91,7 @@ fn load_terms(s: &[u8]) -> record::Terms
     }
 }
 
-fn load_counts(s: &[u8]) -> record::Counts
+pub fn load_counts(s: &[u8]) -> record::Counts
     requires { ⌜ length (now s) ≡ 5752 ⌝ }
     ensures { λ r. ⌜ r ≡ recordOf (decode 8 719 (now (s .entry))) .counts ⌝ }
 {
@@ -99,7 +104,7 @@ fn load_counts(s: &[u8]) -> record::Counts
     }
 }
 
-fn load_agreed(s: &[u8]) -> record::Agreed
+pub fn load_agreed(s: &[u8]) -> record::Agreed
     requires { ⌜ length (now s) ≡ 5752 ⌝ }
     ensures { λ r. ⌜ r ≡ recordOf (decode 8 719 (now (s .entry))) .agreed ⌝ }
 {
@@ -119,8 +124,8 @@ fn load_links(s: &[u8]) -> record::Links
     requires { ⌜ length (now s) ≡ 5752 ⌝ }
     ensures { λ r. ⌜ r ≡ recordOf (decode 8 719 (now (s .entry))) .links ⌝ }
 {
-    let link = load128(s, LINKS);
-    let loss = load128(s, LINKS + 128);
+    let link = load_pairs(s, LINK);
+    let loss = load_pairs(s, LOSS);
     record::Links { link, loss }
 }
 
@@ -128,12 +133,12 @@ fn load_schedule(s: &[u8]) -> record::Schedule
     requires { ⌜ length (now s) ≡ 5752 ⌝ }
     ensures { λ r. ⌜ r ≡ recordOf (decode 8 719 (now (s .entry))) .schedule ⌝ }
 {
-    let kw = load128(s, SCHEDULE);
-    let rank = load128(s, SCHEDULE + 128);
+    let kw = load_pairs(s, KW);
+    let rank = load_pairs(s, RANK);
     record::Schedule { kw, rank }
 }
 
-fn load_generators(s: &[u8]) -> record::Generators
+pub fn load_generators(s: &[u8]) -> record::Generators
     requires { ⌜ length (now s) ≡ 5752 ⌝ }
     ensures { λ r. ⌜ r ≡ recordOf (decode 8 719 (now (s .entry))) .generators ⌝ }
 {
@@ -161,7 +166,7 @@ fn load_generators(s: &[u8]) -> record::Generators
     }
 }
 
-fn load_consumers(s: &[u8]) -> record::Consumers
+pub fn load_consumers(s: &[u8]) -> record::Consumers
     requires { ⌜ length (now s) ≡ 5752 ⌝ }
     ensures { λ r. ⌜ r ≡ recordOf (decode 8 719 (now (s .entry))) .consumers ⌝ }
 {
@@ -268,9 +273,9 @@ fn store_links(t: record::Links, s: &mut [u8])
     ensures { λ _. ⌜ Laid 31 287 (linksRun t) (now (s .entry)) (now (s .exit)) ⌝ }
 {
     let link = t.link;
-    store128(link, s, LINKS);
+    store128(link, s, LINK);
     let loss = t.loss;
-    store128(loss, s, LINKS + 128);
+    store128(loss, s, LOSS);
 }
 
 fn store_schedule(t: record::Schedule, s: &mut [u8])
@@ -278,9 +283,9 @@ fn store_schedule(t: record::Schedule, s: &mut [u8])
     ensures { λ _. ⌜ Laid 287 543 (scheduleRun t) (now (s .entry)) (now (s .exit)) ⌝ }
 {
     let kw = t.kw;
-    store128(kw, s, SCHEDULE);
+    store128(kw, s, KW);
     let rank = t.rank;
-    store128(rank, s, SCHEDULE + 128);
+    store128(rank, s, RANK);
 }
 
 fn store_generators(t: record::Generators, s: &mut [u8])
@@ -338,4 +343,20 @@ pub fn store(r: record::Record, s: &mut [u8])
     store_schedule(r.schedule, s);
     store_generators(r.generators, s);
     store_consumers(r.consumers, s);
+}
+
+// Stores what a block or a closing changes of a record; the other bytes stay.
+pub fn store_totals(
+    counts: record::Counts,
+    generators: record::Generators,
+    consumers: record::Consumers,
+    s: &mut [u8],
+)
+    requires { ⌜ length (now s) ≡ 5752 ⌝ }
+    ensures { λ _. ⌜ now (s .exit) ≡ encode 8 (words (withTotals (recordOf (decode 8 719 (now (s .entry)))) counts generators consumers)) ⌝ }
+{
+    let run = [counts.gone, counts.blocks, counts.month];
+    codec::write8(&run, &mut s[32..56]);
+    store_generators(generators, s);
+    store_consumers(consumers, s);
 }

@@ -5,17 +5,14 @@ use Rattle.layout.specs.Layout.{links-at}
 use Rattle.layout.proofs.load_links.Statement.{statement}
 use Rattle.layout.proofs.load_links.Tie as tie
 
-load128-requires : tie.Need-load128-requires
-load128-requires c κs = search needs
+load-pairs-requires : tie.Need-load-pairs-requires
+load-pairs-requires c κs = search needs
 
-add-load128 : tie.Need-add-load128
-add-load128 c = search needs
-
-load128-requires-2 : tie.Need-load128-requires-2
-load128-requires-2 c κs = search needs
+load-pairs-requires-2 : tie.Need-load-pairs-requires-2
+load-pairs-requires-2 c κs = search needs
 
 returns : tie.Need-returns
 returns c = cc (links-at (decode 8 719 (c .before .before .before .args .s .now)))
 
 pub load-links-spec : {M : Type 1} → statement M
-load-links-spec = tie.close (tie.spec load128-requires add-load128 load128-requires-2 returns)
+load-links-spec = tie.close (tie.spec load-pairs-requires load-pairs-requires-2 returns)

@@ -8,9 +8,6 @@ use Rattle.layout.proofs.store_schedule.Tie as tie
 store128-requires : tie.Need-store128-requires
 store128-requires c κs = search needs
 
-add-store128 : tie.Need-add-store128
-add-store128 c = search needs
-
 store128-requires-2 : tie.Need-store128-requires-2
 store128-requires-2 c κs = search needs
 
@@ -27,4 +24,4 @@ returns c =
 
 pub store-schedule-spec : {M : Type 1} → statement M
 store-schedule-spec =
-    tie.close (tie.spec store128-requires add-store128 store128-requires-2 same-length returns)
+    tie.close (tie.spec store128-requires store128-requires-2 same-length returns)
