@@ -41,7 +41,7 @@ numbers-digits (suc f) v s h =
 
 numbers-decimal : (v : ℕ) (s : List ℕ) → v ≤ largest → numbers 0 (decimal v ++ s) ≡ numbers v s
 unfolding decimal
-numbers-decimal v s h = numbers-digits 9 v s (omega arith)
+numbers-decimal v s h = numbers-digits 19 v s (omega arith)
 
 pub numbers-printed : (w i : ℕ) (vs : List ℕ) → allFit vs ≡ true → numbers 0 (printed w i vs) ≡ vs
 unfolding printed allFit numbers

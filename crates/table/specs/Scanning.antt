@@ -71,7 +71,7 @@ scan-digits (suc f) w k v s h m =
 
 scan-decimal : (w k v : ℕ) (s : List ℕ) → v ≤ largest → scan w k Start (decimal v ++ s) ≡ scan w k (Digits v) s
 unfolding decimal
-scan-decimal w k v s m = scan-digits 9 w k v s (omega arith) m
+scan-decimal w k v s m = scan-digits 19 w k v s (omega arith) m
 
 scan-printed : (w k : ℕ) (vs : List ℕ) → allFit vs ≡ true → (k + length vs) % w ≡ 0 → scan w k Start (printed w k vs) ≡ true
 unfolding printed allFit scan wholeLines

@@ -1,22 +1,73 @@
--- Values and names laid byte by byte, and the invariant of the loop that lays the names line. Assumes nothing.
-use Prim.Native.Nat.{ℕ, _+_, _/_, _%_, _≤_, _<_}
-use mathlib.Core.Path.{_≡_, refl}
+-- Values and names laid byte by byte, and the invariants of the loops that lay a line. Assumes nothing.
+use Prim.Native.Nat.{ℕ, _+_, _*_, _/_, _%_, _≤_, _<_}
+use mathlib.Core.Path.{_≡_, refl, sym}
 use mathlib.Core.List.{List, [], _∷_, append-assoc}
 use native.Mathlib.Omega.{arith}
-use lib.ListN.{length, set, length-append}
-use Rattle.table_text.specs.TableText.{decimal, separatorAfter, name, names, namesLine}
+use native.Mathlib.Nat.{add-zero}
+use lib.ListN.{length, take, getD, set, length-append, take-append-drop}
+use lib.Seq.{take-all}
+use Rattle.table_text.specs.TableText.{decimal, separatorAfter, printed, name, names, namesLine}
 use Rattle.table_text.specs.Laying.{laid, Put, Room}
 use Rattle.table_text.specs.LayingLaws.{put-one, put-then, put-more, put-length}
-use Rattle.table_text.specs.TableTextLaws.{decimal-one, decimal-step, length-step, names-to, length-more, names-more}
+use Rattle.table_text.specs.TableTextLaws.{decimal-one, decimal-step, decimal-short, printed-more, length-step, names-to, length-more, names-more}
 
 -- ---- a value
 
 pub put-digit : {l : List ℕ} {i n : ℕ} → n < 10 → i < length l → Put l i (decimal n) (i + 1) (set l i (48 + n))
 put-digit {l} {i} {n} h b = rw (decimal-one n h) (put-one b)
 
-pub put-digits : {l m : List ℕ} {i e n : ℕ} → 10 ≤ n → n < 10000000000 → Put l i (decimal (n / 10)) e m → i + length (decimal n) ≤ length l
+pub put-digits : {l m : List ℕ} {i e n : ℕ} → 10 ≤ n → n < 100_000_000_000_000_000_000 → Put l i (decimal (n / 10)) e m → i + length (decimal n) ≤ length l
     → Put l i (decimal n) (e + 1) (set m e (48 + n % 10))
 put-digits {l} {m} {i} {e} {n} a b p h = rw (decimal-step n a b) (put-more (48 + n % 10) p (omega (arith, length-step n a b)))
+
+-- ---- a line of values
+
+-- The invariant of the loop that lays a line of the values vs: j values are laid over the buffer as it was, first, from place i on,
+-- and at is the place after them.
+pub record Lining (vs first buf : List ℕ) (i w at j : ℕ) : Type 0 where
+  pub width : w ≡ length vs
+  pub within : j ≤ w
+  pub room : i + 21 * w ≤ length first
+  pub reach : at ≤ i + 21 * j
+  pub is : Put first i (printed w 0 (take j vs)) at buf
+
+pub lining-start : {vs buf : List ℕ} {i : ℕ} → i + 21 * length vs ≤ length buf → Lining vs buf buf i (length vs) i 0
+unfolding printed laid
+lining-start {vs} {buf} {i} h =
+    record {
+      width = refl;
+      within = omega arith;
+      room = h;
+      reach = omega arith;
+      is = record { ends = sym (add-zero i); is = sym (rw add-zero (take-append-drop i buf)) };
+    }
+
+pub lining-size : {vs first buf : List ℕ} {i w at j : ℕ} → Lining vs first buf i w at j → length buf ≡ length first
+lining-size {vs} {first} {buf} {i} {w} {at} {j} h = put-length (h .is) (omega (arith, h .is .ends, h .reach, h .room, h .within))
+
+pub lining-room : {vs first buf : List ℕ} {i w at j : ℕ} → Lining vs first buf i w at j → j < w → at + (length (decimal (getD vs j 0)) + 1) ≤ length buf
+lining-room {vs} {first} {buf} {i} {w} {at} {j} h l = omega (arith, h .reach, h .room, decimal-short (getD vs j 0), lining-size h)
+
+pub lining-step : {vs first buf m : List ℕ} {i w at j e : ℕ} (s : ℕ) → Lining vs first buf i w at j → j < w → Put buf at (decimal (getD vs j 0)) e m → s ≡ separatorAfter w j
+    → Lining vs first (set m e s) i w (e + 1) (j + 1)
+lining-step {vs} {first} {buf} {m} {i} {w} {at} {j} {e} s h l p q =
+    let a = length-append (printed w 0 (take j vs)) (decimal (getD vs j 0)) in
+    let d = decimal-short (getD vs j 0) in
+    let t = put-then (h .is) p (omega (arith, h .is .ends, h .reach, h .room)) in
+    record {
+      width = h .width;
+      within = omega arith;
+      room = h .room;
+      reach = omega (arith, p .ends, h .reach);
+      is =
+          rw (printed-more w j vs (omega (arith, h .width)), ← append-assoc (printed w 0 (take j vs)) (decimal (getD vs j 0)) (separatorAfter w j ∷ []), q)
+          (put-more (separatorAfter w j) t (omega (arith, h .is .ends, h .reach, h .room)));
+    }
+
+pub lining-done : {vs first buf : List ℕ} {i w at j : ℕ} → Lining vs first buf i w at j → w ≤ j → Put first i (printed (length vs) 0 vs) at buf
+lining-done {vs} {first} {buf} {i} {w} {at} {j} h l =
+    let e : take j vs ≡ vs = take-all j vs (omega (arith, h .width, h .within)) in
+    rw (← h .width) (rw e at (h .is))
 
 -- ---- the names line
 

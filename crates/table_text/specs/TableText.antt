@@ -10,9 +10,9 @@ unfoldable pub digits : ℕ → ℕ → List ℕ
 digits zero n = []
 digits (suc k) n = (if ltb n 10 then [] else digits k (n / 10)) ++ ((48 + n % 10) ∷ [])
 
--- A value as it is written: a value is at most 4,294,967,295, so ten digits are enough
+-- A number as it is written: none has more than 64 bits, so twenty digits are enough
 unfoldable pub decimal : ℕ → List ℕ
-decimal n = digits 10 n
+decimal n = digits 20 n
 
 -- What follows place i, counted from 0 on through all lines of w places: the line feed (10) that ends a line, or a comma (44)
 unfoldable pub separatorAfter : ℕ → ℕ → ℕ

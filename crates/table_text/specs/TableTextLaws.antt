@@ -1,14 +1,18 @@
 -- Laws of the written form: decimal digits, and the lengths of names and of the names line. Assumes nothing.
 use Prim.Native.Nat.{ℕ, zero, suc, _+_, _-_, _*_, _/_, _%_, _^_, _≤_, _<_}
 use mathlib.Core.Path.{_≡_, sym, ap, _∙_}
+use mathlib.Core.Bool.{Bool, true, false}
 use mathlib.Core.Logic.{⊎-elim}
-use mathlib.Core.List.{List, [], _∷_, _++_}
+use mathlib.Core.List.{List, [], _∷_, _++_, append-assoc}
 use native.Mathlib.Numerals.{add-one}
-use native.Mathlib.Nat.{eq-zero-or-pos, add-zero, add-suc}
+use native.Mathlib.Nat.{eq-zero-or-pos, zero-add, add-zero, add-suc}
 use native.Mathlib.Omega.{arith}
 use borrow.Author.Tests.{lt-ltb, le-ltb}
-use lib.ListN.{length, length-append}
-use Rattle.table_text.specs.TableText.{digits, decimal, separatorAfter, name, names, namesLine}
+use lib.Dec.{ltb}
+use lib.ListN.{length, take, getD, length-append, length-take}
+use lib.Seq.{take-suc}
+use Rattle.lists.specs.Choice.{if_then_else_}
+use Rattle.table_text.specs.TableText.{digits, decimal, separatorAfter, printed, name, names, namesLine}
 
 -- ---- digits
 
@@ -34,15 +38,15 @@ digits-enough (suc k) n h =
 
 pub decimal-one : (d : ℕ) → d < 10 → decimal d ≡ (48 + d) ∷ []
 unfolding decimal
-decimal-one d h = digits-one 9 d h
+decimal-one d h = digits-one 19 d h
 
-pub decimal-step : (n : ℕ) → 10 ≤ n → n < 10000000000 → decimal n ≡ decimal (n / 10) ++ ((48 + n % 10) ∷ [])
+pub decimal-step : (n : ℕ) → 10 ≤ n → n < 100_000_000_000_000_000_000 → decimal n ≡ decimal (n / 10) ++ ((48 + n % 10) ∷ [])
 unfolding decimal
 decimal-step n l h =
-    digits-step 9 n l ∙ ap (λ (x : List ℕ). x ++ ((48 + n % 10) ∷ [])) (sym (digits-enough 8 (n / 10) (omega arith)))
+    digits-step 19 n l ∙ ap (λ (x : List ℕ). x ++ ((48 + n % 10) ∷ [])) (sym (digits-enough 18 (n / 10) (omega arith)))
 
 -- the digit d written after n
-pub decimal-more : (n d : ℕ) → 0 < n → d < 10 → n * 10 + d < 10000000000 → decimal (n * 10 + d) ≡ decimal n ++ ((48 + d) ∷ [])
+pub decimal-more : (n d : ℕ) → 0 < n → d < 10 → n * 10 + d < 100_000_000_000_000_000_000 → decimal (n * 10 + d) ≡ decimal n ++ ((48 + d) ∷ [])
 decimal-more n d p q h =
     let e : (n * 10 + d) / 10 ≡ n = omega arith in
     let f : (n * 10 + d) % 10 ≡ d = omega arith in
@@ -51,8 +55,47 @@ decimal-more n d p q h =
 pub length-one : (n : ℕ) → n < 10 → length (decimal n) ≡ 1
 length-one n h = ap length (decimal-one n h)
 
-pub length-step : (n : ℕ) → 10 ≤ n → n < 10000000000 → length (decimal n) ≡ length (decimal (n / 10)) + 1
+pub length-step : (n : ℕ) → 10 ≤ n → n < 100_000_000_000_000_000_000 → length (decimal n) ≡ length (decimal (n / 10)) + 1
 length-step n l h = ap length (decimal-step n l h) ∙ length-append (decimal (n / 10)) ((48 + n % 10) ∷ [])
+
+-- no number is written with more than 20 bytes
+digits-short : (k n : ℕ) → length (digits k n) ≤ k
+unfolding digits
+digits-short zero n = omega arith
+digits-short (suc k) n = go (ltb n 10) (digits-short k (n / 10))
+  where
+    go : (t : Bool) → length (digits k (n / 10)) ≤ k → length ((if t then [] else digits k (n / 10)) ++ ((48 + n % 10) ∷ [])) ≤ suc k
+    go true h = omega arith
+    go false h = omega (arith, length-append (digits k (n / 10)) ((48 + n % 10) ∷ []))
+
+pub decimal-short : (n : ℕ) → length (decimal n) ≤ 20
+unfolding decimal
+decimal-short n = digits-short 20 n
+
+-- ---- values
+
+printed-append : (w i : ℕ) (xs ys : List ℕ) → printed w i (xs ++ ys) ≡ printed w i xs ++ printed w (i + length xs) ys
+unfolding printed
+printed-append w i [] ys = rw add-zero
+printed-append w i (x ∷ xs) ys =
+    let e : i + 1 + length xs ≡ i + suc (length xs) = omega arith in
+    rw (append-assoc, ← e) (ap (λ (l : List ℕ). decimal x ++ (separatorAfter w i ∷ l)) (printed-append w (i + 1) xs ys))
+
+-- no value with its separator has more than 21 bytes
+pub printed-short : (w i : ℕ) (vs : List ℕ) → length (printed w i vs) ≤ 21 * length vs
+unfolding printed
+printed-short w i [] = omega arith
+printed-short w i (v ∷ vs) =
+    omega (arith, decimal-short v, printed-short w (i + 1) vs, length-append (decimal v) (separatorAfter w i ∷ printed w (i + 1) vs))
+
+-- the value at place j written after those before it
+pub printed-more : (w j : ℕ) (vs : List ℕ) → j < length vs
+    → printed w 0 (take (j + 1) vs) ≡ printed w 0 (take j vs) ++ (decimal (getD vs j 0) ++ (separatorAfter w j ∷ []))
+unfolding printed
+printed-more w j vs h =
+    let e : take (j + 1) vs ≡ take j vs ++ (getD vs j 0 ∷ []) = rw add-one (take-suc vs j 0 h) in
+    let l : length (take j vs) ≡ j = omega (arith, length-take j vs) in
+    rw (e, printed-append w 0 (take j vs) (getD vs j 0 ∷ []), l, zero-add)
 
 -- ---- names
 

@@ -20,27 +20,12 @@ use Rattle.agreement.specs.Schedule.{newKw, newRank, scheduleRefusal, afterSche
 use Rattle.block.specs.Block.{generatorAfterBlock, consumerAfterBlock, afterBlock, blockLength, entryOf, exitOf, blockRefusal, blockRule}
 use Rattle.bank.specs.Drawing.{stockAt, drawnAt, missingAt}
 use Rattle.bank.specs.Closing.{takenUp, charge, credited, banks, drawn, supplied, lapses, goneAfter, bankBeforeLapse, lapsed, bankAfter, generatorAfterClosing, consumerAfterClosing, afterClosing, closingLists, closingOutput, closingLength, closingRefusal, closingRule}
+use Rattle.unit.specs.AgreementA.{agreementA, scheduleA}
 use Rattle.unit.specs.Calls.{Call, schedule, block, closing, ruleOf, next, bookAfter, Entry, bookAnswers}
 
 -- an accepted call with this output
 abbrev accepted : List ℕ → Entry
 accepted xs = record { number = 0; output = xs }
-
--- agreement A, and its schedule
-unfoldable pub agreementA : Opening
-agreementA =
-    record {
-      G = 1;
-      C = 2;
-      rate = 1_000;
-      cycle = 2;
-      gone = 0;
-      generators = 1 ∷ 1_000 ∷ 800 ∷ [];
-      pairs = 1 ∷ 1 ∷ 1_000 ∷ 500 ∷ [];
-    }
-
-abbrev scheduleA : Call
-scheduleA = schedule (100 ∷ 200 ∷ []) (1 ∷ 1 ∷ [])
 
 -- the readings table of agreement A: its first line, and its second
 abbrev firstLine : Call

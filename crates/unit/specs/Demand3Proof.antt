@@ -53,7 +53,8 @@ pub record Kept (o : Opening) (b : Book) : Type 0 where
   pub crossed : Crossed b
   pub agreement : Agreement o (b .plan)
 
-call-keeps : (k : Call) → Keeps (ruleOf k)
+-- what an accepted call makes of a book keeps what soundness says
+pub call-keeps : (k : Call) → Keeps (ruleOf k)
 unfolding ruleOf
 call-keeps (schedule kws ranks) = schedule-keeps kws ranks
 call-keeps (block entry exit size) = block-keeps entry exit size

@@ -1,4 +1,5 @@
 pub mod Calls
+pub mod AgreementA
 pub mod Trace
 pub mod Demand3
 pub mod Demand3Proof

@@ -16,9 +16,6 @@ slice-write-buf c =
 add-put-decimal : tie.Need-add-put-decimal
 add-put-decimal c = search needs
 
-cast-put-decimal : tie.Need-cast-put-decimal
-cast-put-decimal c = search needs
-
 add-put-decimal-2 : tie.Need-add-put-decimal-2
 add-put-decimal-2 c = search needs
 
@@ -44,9 +41,6 @@ slice-write-buf-2 c =
 add-put-decimal-3 : tie.Need-add-put-decimal-3
 add-put-decimal-3 c = search needs
 
-cast-put-decimal-2 : tie.Need-cast-put-decimal-2
-cast-put-decimal-2 c = search needs
-
 add-put-decimal-4 : tie.Need-add-put-decimal-4
 add-put-decimal-4 c = search needs
 
@@ -70,14 +64,12 @@ put-name-spec =
     (tie.spec
     slice-write-buf
     add-put-decimal
-    cast-put-decimal
     add-put-decimal-2
     put-decimal-requires
     same-length
     returns
     slice-write-buf-2
     add-put-decimal-3
-    cast-put-decimal-2
     add-put-decimal-4
     put-decimal-requires-2
     same-length-2

@@ -1,0 +1,29 @@
+-- `report::account` meets its contract, by the number of the month's calls. Assumes nothing.
+use borrow.Author.Needs.{needs}
+use Rattle.report.specs.Entering.{shows-refusal, shows-equation}
+use Rattle.report.proofs.account.Statement.{statement}
+use Rattle.report.proofs.account.Tie as tie
+
+month-requires : tie.Need-month-requires
+month-requires c κs = search needs
+
+refused-requires : tie.Need-refused-requires
+refused-requires c κs = search needs
+
+returns : tie.Need-returns
+returns c = shows-refusal (c .before .before .before .before .args .values .now) (c .before .before .month .ensures) (c .before .if1 .taken) (c .refused .ensures)
+
+equation-requires : tie.Need-equation-requires
+equation-requires c κs = search needs
+
+returns-2 : tie.Need-returns-2
+returns-2 c =
+    shows-equation
+    (c .before .before .before .before .before .before .args .values .now)
+    (c .before .before .before .before .month .ensures)
+    (c .before .before .before .if1 .left)
+    (c .equation .ensures)
+
+pub account-spec : {M : Type 1} → statement M
+account-spec =
+    tie.close (tie.spec month-requires refused-requires returns equation-requires returns-2)
