@@ -30,7 +30,8 @@ tableNumber text = if startsWithNames 1 2 text && ltb mostInput (length text) th
 
 -- ---- the calls
 
--- 'enters each line as a block': E1, then R1 and R2; the output of a block has 4GC + G + C = 11 numbers
+-- 'enters each line as a block': E1, then R1 and R2; the output of a block has 4GC + G + C = 11 numbers. The values of a table
+-- that the reader accepts are whole lines, so the last three cases are those of no line left.
 unfoldable pub blocks : List ℕ → List Call
 blocks (e ∷ r₁ ∷ r₂ ∷ vs) = block (e ∷ []) (r₁ ∷ r₂ ∷ []) 11 ∷ blocks vs
 blocks (e ∷ r₁ ∷ []) = []
