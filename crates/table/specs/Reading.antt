@@ -1,10 +1,10 @@
 -- The ways in which a call of the reader meets its contract. Assumes nothing.
 use Prim.Native.Nat.{ℕ, _+_, _-_, _/_, _≤_, _<_}
 use mathlib.Core.Path.{_≡_, refl, sym, ap, _∙_}
-use mathlib.Core.Bool.{Bool, true, false}
+use mathlib.Core.Bool.{Bool, true, false, not}
 use mathlib.Core.List.{List}
 use native.Mathlib.Omega.{arith}
-use borrow.Author.Tests.{lt-ltb, le-ltb, eq-eqb, ne-eqb, ltb-true, ltb-false}
+use borrow.Author.Tests.{lt-ltb, le-ltb, eq-eqb, ne-eqb, ltb-true, ltb-false, not-false}
 use lib.Dec.{ltb, eqb}
 use lib.ListN.{length, take, drop, length-take, length-drop}
 use lib.Seq.{take-all}
@@ -90,6 +90,13 @@ unfolding startsWithNames
 starts-is g c text line e = rw e
 
 -- ---- the later lines
+
+-- from a test of the text and one of the room to what they say
+pub formed-tested : (w : ℕ) (s : List ℕ) (t : Bool) → t ≡ wellFormed w s → not t ≡ false → wellFormed w s ≡ true
+formed-tested w s t e h = sym e ∙ not-false t h
+
+pub room-tested : (s out : List ℕ) (k : ℕ) → k ≡ length (numbers 0 s) → k ≤ length out → length (numbers 0 s) ≤ length out
+room-tested s out k e h = rw e at h
 
 module _ {w : ℕ} {s : List ℕ} (out : List ℕ) where
   pub lines-15 : wellFormed w s ≡ false → LinesMeet w s out (Refused 15) out

@@ -3,9 +3,13 @@ use mathlib.Core.Path.{sym, _∙_}
 use native.Mathlib.Omega.{arith}
 use borrow.Author.Needs.{needs}
 use borrow.Author.Tests.{not-true, not-false}
-use Rattle.table.specs.Reading.{lines-15, lines-16, lines-laid}
+use Rattle.table.specs.Reading.{formed-tested, room-tested, lines-15, lines-16, lines-laid}
 use Rattle.table.proofs.read_lines.Statement.{statement}
 use Rattle.table.proofs.read_lines.Tie as tie
+
+-- What the write asks stands first, and finds the tests wherever they stand before it.
+write-values-requires : tie.Need-write-values-requires
+write-values-requires c κs = search (needs, formed-tested, room-tested)
 
 well-formed-requires : tie.Need-well-formed-requires
 well-formed-requires c κs = search needs
@@ -23,14 +27,6 @@ returns-2 c =
     (c .before .before .before .before .before .before .args .out .now)
     (sym (c .before .before .before .well-formed .ensures) ∙ not-false _ (c .before .before .if1 .left))
     (omega (arith, c .before .count-values .ensures, c .if2 .taken))
-
-write-values-requires : tie.Need-write-values-requires
-write-values-requires c κs =
-    record {
-      some = search needs;
-      formed = sym (c .before .before .before .before .well-formed .ensures) ∙ not-false _ (c .before .before .before .if1 .left);
-      room = omega (arith, c .before .before .count-values .ensures, c .before .if2 .left);
-    }
 
 count-lines-requires : tie.Need-count-lines-requires
 count-lines-requires c κs = search needs

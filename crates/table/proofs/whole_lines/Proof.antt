@@ -18,15 +18,15 @@ enum-told-3 c = search needs
 
 returns : tie.Need-returns
 unfolding wholeLines
-returns c = cc
+returns c = rw (c .enum-told .given .1)
 
 returns-2 : tie.Need-returns-2
 unfolding wholeLines
-returns-2 c = cc
+returns-2 c = rw (c .enum-told2 .given .1)
 
 returns-3 : tie.Need-returns-3
 unfolding wholeLines
-returns-3 c = cc
+returns-3 c = rw (c .enum-told3 .given .1)
 
 pub whole-lines-spec : {M : Type 1} → statement M
 whole-lines-spec =
