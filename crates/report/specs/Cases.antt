@@ -35,8 +35,8 @@ pub record Cases : Type 0 where
   pub over-limit : display (bytes "E1,R1,R2\n1,2,3\n200000001,0,0\n") ≡ bytes "refused 10\n"
   -- the table is read first: such a reading before a malformed line
   pub malformed : display (bytes "E1,R1,R2\n200000001,0,0\n07,5,0\n") ≡ bytes "refused 15\n"
-  pub names : display (bytes "E1,R2\n") ≡ bytes "refused 14\n"
+  pub other-names : display (bytes "E1,R2\n") ≡ bytes "refused 14\n"
 
 pub cases : Cases
 unfolding bytes tableNumber blocks calls firstRefused callNumber lastBook refusedText equationText accountText display digits decimal separatorAfter printed name names namesLine inRange same startsWithNames laterLines isDigit numbers values allFit wellFormed readNumber agreementA sum table all some within place cell pairs joined firstOf portionUp lossOn part span insert sort only ahead inOrder lower settle given kept unmet deemed scheduled order suppliers counted unaccounted partOf lossOf delivered atExit setOff afterSetOff underdrawn shortfall remainder blockLists blockOutput noInjection noConsumption kindOf installedOf contractedOf linkOf rateOfLoss openingRefusal opened newKw newRank scheduleRefusal afterSchedule scheduleRule generatorAfterBlock consumerAfterBlock afterBlock blockLength entryOf exitOf blockRefusal blockRule takenUp charge credited stockAt drawnAt missingAt banks drawn supplied lapses goneAfter bankBeforeLapse lapsed bankAfter generatorAfterClosing consumerAfterClosing afterClosing closingLists closingOutput closingLength closingRefusal closingRule ruleOf next bookAfter bookAnswers
-cases = record { example = refl; no-lines = refl; over-limit = refl; malformed = refl; names = refl }
+cases = record { example = refl; no-lines = refl; over-limit = refl; malformed = refl; other-names = refl }
