@@ -3,7 +3,7 @@ use Prim.Native.Nat.{ℕ, _+_, _-_, _*_, _≤_, _<_, min}
 use mathlib.Core.Path.{_≡_, refl, sym, ap, _∙_, subst}
 use mathlib.Core.Bool.{Bool, true, false, _&&_, _||_, not, false≢true}
 use mathlib.Core.List.{List, [], _∷_}
-use mathlib.Core.Logic.{_⊎_, inl, inr}
+use mathlib.Core.Logic.{_⊎_, inl, inr, ⊎-elim}
 use native.Mathlib.Omega.{arith}
 use borrow.Author.Tests.{eqb-true, eq-eqb, ltb-true, ltb-false, leb-true, le-leb, lt-ltb, le-ltb, not-false}
 use lib.Dec.{eqb, leb, ltb}
@@ -13,7 +13,7 @@ use Rattle.lists.specs.Sums.{sum, sum-zero}
 use Rattle.lists.specs.Tests.{some, within, some-none, or-left, or-right, chain-at, and-both, some-never, within-low, within-high, within-from}
 use Rattle.lists.specs.Pairs.{cell}
 use Rattle.lists.specs.PairsLaws.{cell-out, cell-all}
-use Rattle.lists.specs.Refusals.{firstOf, first-head, first-tail, first-none, first-end}
+use Rattle.lists.specs.Refusals.{firstOf, first-head, first-tail, first-none, first-end, first-or}
 use Rattle.energy.specs.Limits.{mostGenerators, mostConsumers, lastKind, mostCapacity, mostLoss, mostRate, mostCycle}
 use Rattle.delivery.specs.Plan.{Plan, scheduled}
 use Rattle.record.specs.Book.{Book, noInjection, noConsumption}
@@ -35,6 +35,19 @@ module _ (o : Opening) where
 
   abbrev terms : Bool
   terms = leb (o .rate) mostRate && within 1 mostCycle (o .cycle) && ltb (o .gone) (o .cycle)
+
+  -- a count out of range or a length other than stated is refusal 2
+  pub opening-sized :
+      (openingRefusal o ≡ 2) ⊎ (((o .G ≤ mostGenerators) × (o .C ≤ mostConsumers)) × ((length (o .generators) ≡ 3 * o .G) × (length (o .pairs) ≡ 2 * (o .G * o .C))))
+  unfolding openingRefusal
+  opening-sized =
+      let x = within 1 mostGenerators (o .G) in
+      let y = within 1 mostConsumers (o .C) in
+      ⊎-elim inl
+      (λ (e : sizes ≡ true).
+      let s = chain-at x (y ∷ eqb (length (o .generators)) (3 * o .G) ∷ eqb (length (o .pairs)) (2 * (o .G * o .C)) ∷ []) e in
+      inr ((within-high 1 mostGenerators (o .G) (s 0), within-high 1 mostConsumers (o .C) (s 1)), (eqb-true _ _ (s 2), eqb-true _ _ (s 3))))
+      (first-or 2 sizes _)
 
   pub accepted-permitted : openingRefusal o ≡ 0 → Permitted o
   unfolding openingRefusal

@@ -3,7 +3,7 @@ use Prim.Native.Nat.{ℕ, _*_, _≤_, _<_, min}
 use mathlib.Core.Path.{_≡_, refl, sym, ap, _∙_}
 use mathlib.Core.Bool.{Bool, true, false, _&&_, not, false≢true, true≢false}
 use mathlib.Core.List.{List, [], _∷_}
-use mathlib.Core.Logic.{_⊎_, inl, inr}
+use mathlib.Core.Logic.{_⊎_, inl, inr, ⊎-elim}
 use native.Mathlib.Omega.{arith}
 use borrow.Author.Tests.{eqb-true, eq-eqb, ltb-true, ltb-false, le-ltb, lt-ltb, not-false}
 use lib.Dec.{eqb, ltb}
@@ -13,7 +13,7 @@ use Rattle.lists.specs.Sums.{sum, sum-zero}
 use Rattle.lists.specs.Tests.{some, within, some-none, and-left, and-right, within-low, within-high}
 use Rattle.lists.specs.Pairs.{cell}
 use Rattle.lists.specs.PairsLaws.{cell-out, cell-all}
-use Rattle.lists.specs.Refusals.{firstOf, first-head, first-tail}
+use Rattle.lists.specs.Refusals.{firstOf, first-head, first-tail, first-or}
 use Rattle.energy.specs.Limits.{mostRank}
 use Rattle.delivery.specs.Plan.{Plan, scheduled}
 use Rattle.record.specs.Book.{Book}
@@ -30,6 +30,15 @@ pub record Schedulable (kws ranks : List ℕ) (b : Book) : Type 0 where
   pub total : (g : ℕ) → g < b .plan .G → sum (b .plan .C) (newKw kws ranks b g) ≤ min (b .plan .installed g) (b .plan .contracted g)
   pub rank-low : (g c : ℕ) → g < b .plan .G → c < b .plan .C → 1 ≤ newRank kws ranks b g c
   pub rank-high : (g c : ℕ) → g < b .plan .G → c < b .plan .C → newRank kws ranks b g c ≤ mostRank
+
+-- a length other than stated is refusal 2
+pub schedule-sized : (kws ranks : List ℕ) (b : Book) →
+    (scheduleRefusal kws ranks b ≡ 2) ⊎ ((length kws ≡ b .plan .G * b .plan .C) × (length ranks ≡ b .plan .G * b .plan .C))
+unfolding scheduleRefusal
+schedule-sized kws ranks b =
+    let x = eqb (length kws) (b .plan .G * b .plan .C) in
+    let y = eqb (length ranks) (b .plan .G * b .plan .C) in
+    ⊎-elim inl (λ (e : x && y ≡ true). inr (eqb-true _ _ (and-left x y e), eqb-true _ _ (and-right x y e))) (first-or 2 (x && y) _)
 
 module _ (kws ranks : List ℕ) (b : Book) where
   abbrev offLink : ℕ → ℕ → Bool

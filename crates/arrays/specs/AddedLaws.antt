@@ -1,14 +1,15 @@
 -- Places of lists that are made by a rule, and of their sums. Assumes nothing.
-use Prim.Native.Nat.{ℕ, _+_, _/_, _%_, _≤_, _<_}
+use Prim.Native.Nat.{ℕ, _+_, _≤_, _<_}
 use mathlib.Core.Path.{_≡_, ap, _∙_}
 use mathlib.Core.List.{List}
 use native.Mathlib.Omega.{arith}
 use lib.ListN.{getD}
 use Rattle.lists.specs.Sums.{sum, sum-cong}
-use Rattle.lists.specs.Tables.{table, getD-table, table-same, table-bound}
+use Rattle.lists.specs.Tables.{table, getD-table, table-same}
 use Rattle.lists.specs.Pairs.{place, cell, pairs}
-use Rattle.lists.specs.PairsLaws.{place-in, cell-in, getD-pairs, pairs-table}
+use Rattle.lists.specs.PairsLaws.{place-in, cell-in, getD-pairs}
 use Rattle.arrays.specs.Bounds.{mostFigure, Moderate}
+use Rattle.arrays.specs.BoundsLaws.{moderate-rows}
 use Rattle.arrays.specs.Added.{added8, added16, rowSums, columnSums}
 
 pub at-table : (n : ℕ) (f : ℕ → ℕ) (i : ℕ) → i < n → place n (table n f) i ≡ f i
@@ -36,4 +37,4 @@ plus16 xs ys h e = table-same 16 _ _ (λ c l. ap (λ (y : ℕ). place 16 xs c + 
 
 -- a pair list of moderate figures
 pub moderate-pairs : (f : ℕ → ℕ → ℕ) → ((g c : ℕ) → f g c ≤ mostFigure) → Moderate (pairs 8 16 f)
-moderate-pairs f h = record { at = λ i. rw pairs-table (table-bound 128 (λ k. f (k / 16) (k % 16)) mostFigure (λ k l. h (k / 16) (k % 16)) i) }
+moderate-pairs = moderate-rows 8 16

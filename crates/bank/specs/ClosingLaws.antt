@@ -10,7 +10,7 @@ use borrow.Author.Tests.{eq-eqb, eqb-true, eqb-false}
 use lib.Dec.{eqb, ltb}
 use Rattle.lists.specs.Choice.{if_then_else_}
 use Rattle.lists.specs.Sums.{sum, sum-cong, sum-falls, sum-both-ways, never-rises}
-use Rattle.lists.specs.Refusals.{firstOf}
+use Rattle.lists.specs.Refusals.{firstOf, first-or}
 use Rattle.energy.specs.Energy.{portionUp}
 use Rattle.energy.specs.EnergyLaws.{portion-le}
 use Rattle.order.specs.Members.{In, order-in, only-in}
@@ -177,3 +177,8 @@ closing-keeps size b f e = closing-facts b f
 pub closing-again : (b : Book) (size : ℕ) → size ≡ closingLength (b .plan) → closingRefusal size (afterClosing b) ≡ 13
 unfolding closingRefusal afterClosing firstOf
 closing-again b size e = rw (eq-eqb size (closingLength (b .plan)) e)
+
+-- a length other than stated is refusal 2
+pub closing-sized : (size : ℕ) (b : Book) → (closingRefusal size b ≡ 2) ⊎ (size ≡ closingLength (b .plan))
+unfolding closingRefusal
+closing-sized size b = ⊎-elim inl (λ (e : eqb size (closingLength (b .plan)) ≡ true). inr (eqb-true size (closingLength (b .plan)) e)) (first-or 2 (eqb size (closingLength (b .plan))) _)

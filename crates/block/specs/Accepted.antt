@@ -10,6 +10,7 @@ use Rattle.lists.specs.Sums.{sum}
 use Rattle.lists.specs.Tables.{table}
 use Rattle.lists.specs.Pairs.{place}
 use Rattle.order.specs.Order.{inOrder}
+use Rattle.arrays.specs.Bounds.{Moderate}
 use Rattle.delivery.specs.Plan.{Plan, deemed, scheduled, order}
 use Rattle.delivery.specs.Delivery.{counted, unaccounted, partOf, lossOf, delivered, atExit}
 use Rattle.delivery.specs.Arrays.{planFrom, Deliverable}
@@ -30,7 +31,7 @@ use Rattle.block.specs.BlockLaws.{Enterable, accepted-enterable, entry-o
 use Rattle.block.specs.Readings.{readingAt, read-table}
 use Rattle.block.specs.Totals.{RecordRoom, recordAfterBlock}
 use Rattle.block.specs.TotalsLaws.{record-is}
-use Rattle.block.specs.RoomLaws.{generators-room, consumers-room}
+use Rattle.block.specs.RoomLaws.{generators-room, consumers-room, output-moderate}
 use Rattle.block.specs.Output.{listsWritten, output-is}
 
 -- the arrays of a record that a block is settled by
@@ -101,6 +102,11 @@ module _ (r : Record) (entry exit : List ℕ) (size : ℕ) (z : numberOn (blockR
         where
           beyond : (c : ℕ) → planIn r .C ≤ c → exitOf entry exit (figures r) c ≡ 0
           beyond c h = exit-out entry exit (figures r) c h
+
+  -- every number of the output fits its 8 bytes
+  pub block-output-moderate : Moderate (blockRule entry exit size .output (figures r))
+  unfolding blockRule figures
+  block-output-moderate = output-moderate r (entryOf entry exit (figures r)) (exitOf entry exit (figures r)) facts (enterable .entry-most) (enterable .exit-most)
 
   -- the steps: the readings e and f in the record's width, and the lists x settled from them
   module _ (e f : List ℕ) (x : Lists) (e-is : e ≡ table 8 (readingAt entry)) (f-is : f ≡ table 16 (readingAt exit)) (x-is : x ≡ listsOf (planIn r) (place 8 e) (place 16 f)) where

@@ -3,6 +3,7 @@ use Prim.Native.Nat.{ℕ, _+_, _*_, _≤_, _<_, min}
 use mathlib.Core.Path.{_≡_, refl, sym, ap, _∙_}
 use mathlib.Core.Bool.{Bool, true, false, _&&_, _||_, not}
 use mathlib.Core.List.{List, [], _∷_}
+use mathlib.Core.Logic.{_⊎_, inl, inr, ⊎-elim}
 use native.Mathlib.Omega.{arith}
 use borrow.Author.Tests.{eqb-true, ltb-true, ltb-false, leb-false, not-false}
 use lib.Dec.{eqb, leb, ltb}
@@ -13,7 +14,7 @@ use Rattle.lists.specs.Tables.{length-table}
 use Rattle.lists.specs.Tests.{some, some-none, or-left, or-right, chain-at}
 use Rattle.lists.specs.Pairs.{place, pairs, joined}
 use Rattle.lists.specs.PairsLaws.{place-out, place-in, length-pairs}
-use Rattle.lists.specs.Refusals.{firstOf, first-head, first-tail}
+use Rattle.lists.specs.Refusals.{firstOf, first-head, first-tail, first-or}
 use Rattle.energy.specs.Limits.{mostReading, mostMonthBlocks, mostUnitBlocks}
 use Rattle.delivery.specs.Plan.{Plan, deemed}
 use Rattle.delivery.specs.Delivery.{unaccounted, lossOf}
@@ -34,6 +35,21 @@ pub record Enterable (entry exit : List ℕ) (size : ℕ) (b : Book) : Type 0 wh
   pub exit-most : (c : ℕ) → exitOf entry exit b c ≤ mostReading
   pub month : b .month < mostMonthBlocks
   pub blocks : b .blocks < mostUnitBlocks
+
+-- a length other than stated is refusal 2
+pub block-sized : (entry exit : List ℕ) (size : ℕ) (b : Book) →
+    (blockRefusal entry exit size b ≡ 2) ⊎ ((length entry ≡ b .plan .G) × ((length exit ≡ b .plan .C) × (size ≡ blockLength (b .plan))))
+unfolding blockRefusal
+block-sized entry exit size b =
+    let p = b .plan in
+    let x = eqb (length entry) (p .G) in
+    let y = eqb (length exit) (p .C) in
+    let z = eqb size (blockLength p) in
+    ⊎-elim inl
+    (λ (e : x && y && z ≡ true).
+    let s = chain-at x (y ∷ z ∷ []) e in
+    inr (eqb-true _ _ (s 0), (eqb-true _ _ (s 1), eqb-true _ _ (s 2))))
+    (first-or 2 (x && y && z) _)
 
 module _ (entry exit : List ℕ) (b : Book) where
   pub entry-out : (g : ℕ) → b .plan .G ≤ g → entryOf entry exit b g ≡ 0

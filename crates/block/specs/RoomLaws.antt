@@ -17,10 +17,11 @@ use Rattle.energy.specs.Energy.{quarterHour, lossOn}
 use Rattle.energy.specs.Share.{part}
 use Rattle.energy.specs.ShareLaws.{part-none, part-le}
 use Rattle.arrays.specs.Bounds.{mostFigure, Moderate, Room}
+use Rattle.arrays.specs.BoundsLaws.{moderate-table, moderate-rows, no-more, and-then, moderate-joined}
 use Rattle.delivery.specs.Plan.{Plan, deemed}
 use Rattle.delivery.specs.Delivery.{counted, unaccounted, partOf, lossOf, delivered, atExit}
 use Rattle.delivery.specs.DeliveryLaws.{counted-le, lossOf-le}
-use Rattle.settlement.specs.Settlement.{setOff, underdrawn, shortfall, remainder}
+use Rattle.settlement.specs.Settlement.{setOff, underdrawn, shortfall, remainder, blockLists, blockOutput}
 use Rattle.settlement.specs.SettlementLaws.{setOff-le, shortfall-le, entry-split, exit-split}
 use Rattle.settlement.specs.Arrays.{listsOf}
 use Rattle.record.specs.Stored.{generatorAt, consumerAt, planOf, figures}
@@ -74,21 +75,34 @@ module _ (r : Record) (E R : ℕ → ℕ) (f : Facts (figures r)) (e-most : (g :
       go true = delivered-small g c
       go false = omega (arith, small)
 
+  loss-small : (g c : ℕ) → lossOf (planOf r) g (E g) c ≤ mostFigure
+  loss-small g c = omega (arith, lossOf-le (planOf r) g (E g) c (rate-small g c), part-small g c)
+
+  setoff-small : (g c : ℕ) → setOff (planOf r) E c (R c) g ≤ mostFigure
+  setoff-small g c = omega (arith, setOff-le (planOf r) E c (R c) g, delivered-small g c)
+
+  underdrawn-small : (g c : ℕ) → underdrawn (planOf r) E c (R c) g ≤ mostFigure
+  unfolding underdrawn
+  underdrawn-small g c = omega (arith, delivered-small g c)
+
+  shortfall-small : (g c : ℕ) → shortfall (planOf r) E c (R c) g ≤ mostFigure
+  shortfall-small g c = omega (arith, shortfall-le (planOf r) E c (R c) g, exit-small g c)
+
   loss-moderate : Moderate (listsOf (planOf r) E R .loss)
   unfolding listsOf
-  loss-moderate = moderate-pairs _ (λ g c. omega (arith, lossOf-le (planOf r) g (E g) c (rate-small g c), part-small g c))
+  loss-moderate = moderate-pairs _ loss-small
 
   setoff-moderate : Moderate (listsOf (planOf r) E R .setoff)
   unfolding listsOf
-  setoff-moderate = moderate-pairs _ (λ g c. omega (arith, setOff-le (planOf r) E c (R c) g, delivered-small g c))
+  setoff-moderate = moderate-pairs _ setoff-small
 
   underdrawn-moderate : Moderate (listsOf (planOf r) E R .underdrawn)
-  unfolding listsOf underdrawn
-  underdrawn-moderate = moderate-pairs _ (λ g c. omega (arith, delivered-small g c))
+  unfolding listsOf
+  underdrawn-moderate = moderate-pairs _ underdrawn-small
 
   shortfall-moderate : Moderate (listsOf (planOf r) E R .shortfall)
   unfolding listsOf
-  shortfall-moderate = moderate-pairs _ (λ g c. omega (arith, shortfall-le (planOf r) E c (R c) g, exit-small g c))
+  shortfall-moderate = moderate-pairs _ shortfall-small
 
   -- what is added to a generator's terms is at most its reading
   unaccounted-part : (g : ℕ) → unaccounted (planOf r) g (E g) ≤ mostReading
@@ -170,3 +184,17 @@ module _ (r : Record) (E R : ℕ → ℕ) (f : Facts (figures r)) (e-most : (g :
         shortfall-room = room 16 (x .shortfall) _ (λ c l. omega (arith, most c, f .con c .equation)) (λ c l. omega (arith, at-columns (λ g c. shortfall (planOf r) E c (R c) g) G c G8 l, short-part c));
         outstanding = room 16 (x .outstanding) _ (λ c l. omega (arith, most c, f .con c .equation)) (λ c l. omega (arith, at-table 16 (λ c. remainder (planOf r) E c (R c)) c l, left-part c));
       }
+
+  -- so is every number of the output
+  pub output-moderate : Moderate (blockOutput (planOf r) E R)
+  unfolding blockOutput blockLists
+  output-moderate =
+      let G = planOf r .G in
+      let C = planOf r .C in
+      moderate-joined
+      (and-then (moderate-rows G C _ loss-small)
+      (and-then (moderate-rows G C _ setoff-small)
+      (and-then (moderate-rows G C _ underdrawn-small)
+      (and-then (moderate-rows G C _ shortfall-small)
+      (and-then (moderate-table G _ (λ g l. omega (arith, unaccounted-part g)))
+      (and-then (moderate-table C _ (λ c l. omega (arith, left-part c))) no-more))))))

@@ -7,11 +7,12 @@ use Rattle.lists.specs.Tables.{table-bound}
 use Rattle.lists.specs.Pairs.{place, pairs}
 use Rattle.lists.specs.PairsLaws.{pairs-table}
 use Rattle.arrays.specs.Bounds.{mostFigure, Moderate, Room}
+use Rattle.arrays.specs.BoundsLaws.{moderate-table, moderate-rows, no-more, and-then, moderate-joined}
 use Rattle.record.specs.Book.{Book}
 use Rattle.record.specs.Stored.{generatorAt, consumerAt, planOf, figures}
 use Rattle.record.specs.SoundLaws.{Facts, injected-most, metered-most}
 use Rattle.record.specs.declared.Record.{Record}
-use Rattle.bank.specs.Closing.{takenUp, charge, credited, drawn, supplied, lapsed}
+use Rattle.bank.specs.Closing.{takenUp, charge, credited, drawn, supplied, lapsed, bankAfter, closingLists, closingOutput}
 use Rattle.bank.specs.ClosingLaws.{drawn-le, generator-split, consumer-split}
 use Rattle.arrays.specs.AddedLaws.{at-table, at-rows, at-columns, moderate-pairs}
 use Rattle.closing.specs.Month.{monthOf, banks-most}
@@ -46,6 +47,24 @@ module _ (b : Book) (f : Facts b) where
 
   supplied-small : (c : ℕ) → supplied b c ≤ mostFigure
   supplied-small c = omega (arith, consumer-split b c, metered-most b f c, f .con c .equation)
+
+  bank-small : (g : ℕ) → bankAfter b g ≤ mostFigure
+  unfolding takenUp
+  bank-small g = omega (arith, generator-split b g rate-low, injected-most b f g, f .gen g .equation)
+
+  -- every number of the output fits its 8 bytes
+  pub closing-output-moderate : Moderate (closingOutput b)
+  unfolding closingOutput closingLists
+  closing-output-moderate =
+      let G = b .plan .G in
+      let C = b .plan .C in
+      moderate-joined
+      (and-then (moderate-rows G C _ drawn-small)
+      (and-then (moderate-table G _ (λ g l. charge-small g))
+      (and-then (moderate-table G _ (λ g l. lapsed-small g))
+      (and-then (moderate-table G _ (λ g l. bank-small g))
+      (and-then (moderate-table C _ (λ c l. omega (arith, metered-most b f c, f .con c .equation)))
+      (and-then (moderate-table C _ (λ c l. supplied-small c)) no-more))))))
 
 module _ (r : Record) (f : Facts (figures r)) where
   pub generators-room : GeneratorsRoom (r .generators) (monthOf (figures r)) (r .terms .consumers)

@@ -1,8 +1,9 @@
 -- A call's refusals, in the order in which they are tested. Assumes nothing.
 use Prim.Native.Nat.{ℕ, suc}
 use mathlib.Core.Path.{_≡_, refl}
-use mathlib.Core.Bool.{Bool, true, false}
+use mathlib.Core.Bool.{Bool, true, false, not}
 use mathlib.Core.List.{List, [], _∷_}
+use mathlib.Core.Logic.{_⊎_, inl, inr}
 use native.Mathlib.Omega.{arith}
 use Rattle.lists.specs.Choice.{if_then_else_}
 
@@ -28,3 +29,9 @@ first-none n t rs e h = rw e h
 pub first-end : firstOf [] ≡ 0
 unfolding firstOf
 first-end = refl
+
+-- the first test fails and gives its number, or what it asks for holds
+pub first-or : (n : ℕ) (t : Bool) (rs : List (ℕ × Bool)) → (firstOf ((n, not t) ∷ rs) ≡ n) ⊎ (t ≡ true)
+unfolding firstOf
+first-or n true rs = inr refl
+first-or n false rs = inl refl

@@ -1,0 +1,71 @@
+-- `wheeling::wheeling_open` meets its contract: opening on the numbers that the bytes hold.
+use borrow.Author.Needs.{needs}
+use Rattle.wheeling.specs.ReadingLaws.{lent-alike}
+use Rattle.wheeling.specs.WheelingLaws.{opening-on-bytes, on-other}
+use Rattle.wheeling.proofs.wheeling_open.Statement.{statement}
+use Rattle.wheeling.proofs.wheeling_open.Tie as tie
+
+slice-aggregate-read-input : tie.Need-slice-aggregate-read-input
+slice-aggregate-read-input c = search needs
+
+read-input-requires : tie.Need-read-input-requires
+read-input-requires c κs = search needs
+
+slice-aggregate-read-input-2 : tie.Need-slice-aggregate-read-input-2
+slice-aggregate-read-input-2 c = search needs
+
+read-input-requires-2 : tie.Need-read-input-requires-2
+read-input-requires-2 c κs = search needs
+
+sub-opening : tie.Need-sub-opening
+sub-opening c = search needs
+
+part-opening-start : tie.Need-part-opening-start
+part-opening-start c = search needs
+
+part-opening-end : tie.Need-part-opening-end
+part-opening-end c = search needs
+
+sub-opening-2 : tie.Need-sub-opening-2
+sub-opening-2 c = search needs
+
+part-opening-start-2 : tie.Need-part-opening-start-2
+part-opening-start-2 c = search needs
+
+part-opening-end-2 : tie.Need-part-opening-end-2
+part-opening-end-2 c = search needs
+
+opening-requires : tie.Need-opening-requires
+opening-requires c κs = search needs
+
+keep-requires : tie.Need-keep-requires
+keep-requires c κs = search needs
+
+same-length : tie.Need-same-length
+same-length c = search needs
+
+returns : tie.Need-returns
+returns c = opening-on-bytes _ _ _ _ _ _ _ (c .before .before .before .before .before .before .before .before .before .before .before .before .before .before .before .if1 .taken) (lent-alike (c .before .before .before .before .before .before .before .before .before .before .before .before .before .read-input .ensures)) (lent-alike (c .before .before .before .before .before .before .before .before .before .before .read-input2 .ensures)) (c .before .before .before .before .opening .ensures) (c .before .before .keep .ensures)
+
+returns-2 : tie.Need-returns-2
+returns-2 c = on-other (c .if1 .left)
+
+pub wheeling-open-spec : {M : Type 1} → statement M
+wheeling-open-spec =
+    tie.close
+    (tie.spec
+    slice-aggregate-read-input
+    read-input-requires
+    slice-aggregate-read-input-2
+    read-input-requires-2
+    sub-opening
+    part-opening-start
+    part-opening-end
+    sub-opening-2
+    part-opening-start-2
+    part-opening-end-2
+    opening-requires
+    keep-requires
+    same-length
+    returns
+    returns-2)

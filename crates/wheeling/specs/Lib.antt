@@ -1,0 +1,4 @@
+pub mod Wheeling
+pub mod Reading
+pub mod ReadingLaws
+pub mod WheelingLaws
