@@ -77,7 +77,7 @@ call-agreement o (schedule kws ranks) b h = record { G-is = h .G-is; C-is = h .C
 call-agreement o (block entry exit size) b h = h
 call-agreement o (closing size) b h = h
 
-next-kept : (o : Opening) (b : Book) (k : Call) → Kept o b → Kept o (next b k)
+pub next-kept : (o : Opening) (b : Book) (k : Call) → Kept o b → Kept o (next b k)
 unfolding next
 next-kept o b k h = go (eqb (ruleOf k .refusal b) 0) refl
   where
@@ -95,7 +95,7 @@ unfolding bookAfter
 book-kept o b [] h = h
 book-kept o b (k ∷ ks) h = book-kept o (next b k) ks (next-kept o b k h)
 
-opened-kept : (o : Opening) → Permitted o → Kept o (opened o)
+pub opened-kept : (o : Opening) → Permitted o → Kept o (opened o)
 unfolding opened noInjection noConsumption
 opened-kept o p =
     record {
@@ -303,7 +303,7 @@ no-output kws ranks r = go (eqb (numberOn (scheduleRule kws ranks) r) 0)
     go true = refl
     go false = refl
 
-given : (r : Record) (a : Ask) → (w : Given) × Done r a w
+pub given : (r : Record) (a : Ask) → (w : Given) × Done r a w
 unfolding Done
 given r (askSchedule kws ranks) =
     let rule = scheduleRule kws ranks in

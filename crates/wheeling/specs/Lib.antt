@@ -2,3 +2,4 @@ pub mod Wheeling
 pub mod Reading
 pub mod ReadingLaws
 pub mod WheelingLaws
+pub mod ByRule

@@ -4,7 +4,6 @@ use mathlib.Core.List.{List}
 use mathlib.Core.Logic.{_⊎_}
 use mathlib.Core.Path.{_≡_}
 use lib.ListN.{length, take}
-use Rattle.codec.specs.Bytes.{encode}
 use Rattle.record.specs.Words.{words}
 use Rattle.record.specs.declared.Answer.{Answer}
 use Rattle.wheeling.specs.Wheeling.{numbersIn, bytesAfter}

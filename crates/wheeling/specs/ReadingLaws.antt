@@ -1,18 +1,19 @@
 -- Bytes read as numbers: whole counts, too many, and no whole count. Assumes nothing.
-use Prim.Native.Nat.{ℕ, _+_, _-_, _*_, _/_, _%_, _≤_, _<_}
+use Prim.Native.Nat.{ℕ, _-_, _/_, _%_, _^_, _≤_, _<_}
 use mathlib.Core.Path.{_≡_, refl, sym, ap, _∙_}
-use mathlib.Core.List.{List}
-use mathlib.Core.Logic.{_⊎_, inl, inr, ⊎-elim}
+use mathlib.Core.Bool.{Bool, true, false}
+use mathlib.Core.List.{List, []}
+use mathlib.Core.Logic.{inl, inr}
 use native.Mathlib.Omega.{arith}
 use borrow.Author.Tests.{eq-eqb, ne-eqb}
 use borrow.Rule.Slice.PartMut.{putMid, midOf, postOf, mid-len, same-len-mid}
 use lib.Dec.{eqb}
-use lib.ListN.{length, take, length-append}
+use lib.ListN.{length, take}
 use lib.Seq.{length-take-le, take-at}
 use Rattle.lists.specs.Choice.{if_then_else_}
-use Rattle.lists.specs.Tables.{table, length-table}
+use Rattle.lists.specs.Tables.{length-table}
 use Rattle.codec.specs.Bytes.{encode, decode}
-use Rattle.codec.specs.BytesLaws.{length-decode}
+use Rattle.codec.specs.BytesLaws.{Below, length-encode, length-decode, decode-encode}
 use Rattle.record.specs.Words.{words}
 use Rattle.record.specs.declared.Answer.{Answer}
 use Rattle.wheeling.specs.Wheeling.{numbersIn, bytesAfter}
@@ -92,3 +93,23 @@ module _ {a : Answer} {bytes : List ℕ} where
   pub kept-refused : (a .number ≡ 0 → ⊥) → Kept a bytes (a .number) bytes
   unfolding bytesAfter
   kept-refused z = record { number-is = refl; record-is = rw (ne-eqb (a .number) 0 z) }
+
+-- numbers that fit 8 bytes are read back from their bytes
+pub numbers-encode : (ws : List ℕ) → Below (256 ^ 8) ws → numbersIn 8 (encode 8 ws) ≡ ws
+numbers-encode ws h =
+    let size = length-encode 8 ws in
+    let count : length (encode 8 ws) / 8 ≡ length ws = omega arith in
+    numbers-whole 8 (encode 8 ws) (omega arith) ∙ ap (λ (i : ℕ). decode 8 i (encode 8 ws)) count ∙ decode-encode 8 ws h
+
+pub numbers-none : numbersIn 8 [] ≡ []
+unfolding numbersIn decode
+numbers-none = refl
+
+-- a call with no output leaves none
+pub no-bytes : (n : ℕ) → [] ≡ bytesAfter n [] []
+unfolding bytesAfter encode
+no-bytes n = go (eqb n 0)
+  where
+    go : (t : Bool) → _≡_ {A = List ℕ} [] (if t then [] else [])
+    go true = refl
+    go false = refl

@@ -1,25 +1,25 @@
 -- How the calls on bytes follow from those on numbers. Assumes nothing.
-use Prim.Native.Nat.{ℕ, _+_, _*_, _≤_, _<_}
+use Prim.Native.Nat.{ℕ, _*_, _≤_, _<_}
 use mathlib.Core.Path.{_≡_, refl, sym, ap, _∙_, subst}
-use mathlib.Core.Bool.{Bool, true, false, true≢false, false≢true}
+use mathlib.Core.Bool.{Bool, true, false, true≢false}
 use mathlib.Core.List.{List, []}
 use mathlib.Core.Logic.{_⊎_, inl, inr, ⊎-elim}
 use native.Mathlib.Omega.{arith}
 use native.Mathlib.Nat.{mul-le-mul}
-use borrow.Author.Tests.{eqb-true, eq-eqb, ne-eqb}
+use borrow.Author.Tests.{eqb-true, ne-eqb}
 use lib.Dec.{eqb}
-use lib.ListN.{length, take}
+use lib.ListN.{length}
 use Rattle.lists.specs.Choice.{if_then_else_}
 use Rattle.codec.specs.Bytes.{encode, decode}
-use Rattle.record.specs.Words.{words, recordOf}
-use Rattle.record.specs.Stored.{figures, stored, zeros}
+use Rattle.record.specs.Words.{recordOf}
+use Rattle.record.specs.Stored.{figures}
 use Rattle.record.specs.Sound.{sound}
 use Rattle.record.specs.SoundLaws.{Facts}
-use Rattle.record.specs.Called.{Rule, numberOn, recordAfter, outputAfter, Called}
+use Rattle.record.specs.Called.{Rule, numberOn, outputAfter, Called}
 use Rattle.record.specs.CalledLaws.{record-facts, number-sound, number-unsound, accepted-sound, record-refused, output-accepted}
 use Rattle.record.specs.declared.Record.{Record}
 use Rattle.record.specs.declared.Answer.{Answer}
-use Rattle.agreement.specs.Opening.{Opening, openingRefusal, opened, Opened}
+use Rattle.agreement.specs.Opening.{Opening, openingRefusal, Opened}
 use Rattle.agreement.specs.OpeningLaws.{opening-sized}
 use Rattle.agreement.specs.Refusing.{asked}
 use Rattle.agreement.specs.Schedule.{scheduleRule, Scheduled}
@@ -29,7 +29,8 @@ use Rattle.block.specs.BlockLaws.{block-sized}
 use Rattle.bank.specs.Closing.{closingLength, closingRefusal, closingRule, Closed}
 use Rattle.bank.specs.ClosingLaws.{closing-sized}
 use Rattle.wheeling.specs.Wheeling.{recordBytes, recordIn, numbersIn, bytesAfter, Stored, Done, OnBytes, openingIn, ByteOpened, ByteScheduled, ByteBlocked, ByteClosed}
-use Rattle.wheeling.specs.Reading.{AlikeSize, Alike, Taken, Fits, Room, Kept}
+use Rattle.wheeling.specs.ReadingLaws.{no-bytes}
+use Rattle.wheeling.specs.Reading.{AlikeSize, Alike, Kept}
 
 -- ---- a call does not tell lists apart that are too long for it
 
@@ -203,12 +204,7 @@ silent {r} {r′} {n} kws ranks c = record { number-is = c .number-is; record-is
 
 -- a call with no output
 done-silent : {ensured : Answer → List ℕ → Type 0} {a : Answer} {bytes bytes′ : List ℕ} {n : ℕ} → ensured a [] → Kept a bytes n bytes′ → Done ensured bytes [] n bytes′ []
-unfolding bytesAfter encode
-done-silent {a = a} {n = n} h k = (a, ([], (h, record { number-is = k .number-is; record-is = k .record-is; output-is = go (eqb n 0) })))
-  where
-    go : (t : Bool) → _≡_ {A = List ℕ} [] (if t then [] else [])
-    go true = refl
-    go false = refl
+done-silent {a = a} {n = n} h k = (a, ([], (h, record { number-is = k .number-is; record-is = k .record-is; output-is = no-bytes n })))
 
 -- another output that is the same where the call was accepted
 stored-same : {a : Answer} {out bytes lent bytes′ lent′ : List ℕ} {n : ℕ} (out′ : List ℕ) → (a .number ≡ 0 → out ≡ out′) → Stored a out bytes lent n bytes′ lent′ → Stored a out′ bytes lent n bytes′ lent′

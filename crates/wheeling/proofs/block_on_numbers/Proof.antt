@@ -16,7 +16,12 @@ keep-requires : tie.Need-keep-requires
 keep-requires c κs = search needs
 
 write8-requires : tie.Need-write8-requires
-write8-requires c κs = let number = sym (c .before .before .before .before .before .keep .ensures .number-is) ∙ c .before .before .if1 .taken in omega (arith, c .before .before .before .before .before .before .before .before .before .before .before .before .before .before .before .before .before .before .pre .1 (block-room _ _ _ (c .before .before .before .before .before .before .before .before .before .block .ensures) number), c .before .before .before .before .before .before .before .before .before .block .kept .1 .1 .1 .0)
+write8-requires c κs =
+    let kept = c .before .before .before .before .before in
+    let called = kept .before .before .before .before in
+    let start = called .before .before .before .before .before .before .before .before .before in
+    let accepted = sym (kept .keep .ensures .number-is) ∙ c .before .before .if1 .taken in
+    omega (arith, start .pre .1 (block-room _ _ _ (called .block .ensures) accepted), called .block .kept .1 .1 .1 .0)
 
 same-length : tie.Need-same-length
 same-length c = search needs
@@ -28,7 +33,13 @@ same-length-3 : tie.Need-same-length-3
 same-length-3 c = search needs
 
 returns : tie.Need-returns
-returns c = done-accepted (called-in _ (c .before .before .before .before .before .before .before .before .before .before .before .before .before .before .load .ensures) (c .before .before .before .before .before .before .before .before .before .before .before .before .block .ensures)) (c .before .before .before .before .before .before .before .before .keep .ensures) (c .before .before .before .before .before .if1 .taken) (c .before .before .write8 .ensures)
+returns c =
+    let written = c .before .before in
+    let tested = written .before .before .before in
+    let kept = tested .before .before .before in
+    let called = kept .before .before .before .before in
+    let loaded = called .before .before in
+    done-accepted (called-in _ (loaded .load .ensures) (called .block .ensures)) (kept .keep .ensures) (tested .if1 .taken) (written .write8 .ensures)
 
 same-length-4 : tie.Need-same-length-4
 same-length-4 c = search needs
@@ -37,7 +48,11 @@ same-length-5 : tie.Need-same-length-5
 same-length-5 c = search needs
 
 returns-2 : tie.Need-returns-2
-returns-2 c = done-refused (called-in _ (c .before .before .before .before .before .before .before .before .before .load .ensures) (c .before .before .before .before .before .before .before .block .ensures)) (c .before .before .before .keep .ensures) (c .if1 .left)
+returns-2 c =
+    let kept = c .before .before .before in
+    let called = kept .before .before .before .before in
+    let loaded = called .before .before in
+    done-refused (called-in _ (loaded .load .ensures) (called .block .ensures)) (kept .keep .ensures) (c .if1 .left)
 
 pub block-on-numbers-spec : {M : Type 1} → statement M
 block-on-numbers-spec =

@@ -49,7 +49,10 @@ part-out-end : tie.Need-part-out-end
 part-out-end c = search needs
 
 block-on-numbers-requires : tie.Need-block-on-numbers-requires
-block-on-numbers-requires c κs = (c .before .before .before .before .before .before .before .before .before .before .before .before .before .before .before .if1 .taken, room-fits (c .before .before .before .before .before .before .before .room .ensures) _ (mid-len 0 _ _ (search needs)))
+block-on-numbers-requires c κs =
+    let counted = c .before .before .before .before .before .before .before in
+    let here = counted .before .before .before .before .before .before .before .before in
+    (here .if1 .taken, room-fits (counted .room .ensures) _ (mid-len 0 _ _ (search needs)))
 
 same-length : tie.Need-same-length
 same-length c = search needs
@@ -58,7 +61,15 @@ same-length-2 : tie.Need-same-length-2
 same-length-2 c = search needs
 
 returns : tie.Need-returns
-returns c = block-on-bytes _ _ (c .before .before .before .before .before .before .before .before .before .before .before .before .before .before .before .before .before .before .before .before .before .if1 .taken) (lent-alike (c .before .before .before .before .before .before .before .before .before .before .before .before .before .before .before .before .before .before .before .read-input .ensures)) (lent-alike (c .before .before .before .before .before .before .before .before .before .before .before .before .before .before .before .before .read-input2 .ensures)) (room-alike (c .before .before .before .before .before .before .before .before .before .before .before .before .before .room .ensures) _ (mid-len 0 _ _ (c .before .before .before .before .before .before .before .before .before .before .before .before .before .room .ensures .within))) (c .before .before .before .before .before .block-on-numbers .ensures)
+returns c =
+    let called = c .before .before .before .before .before in
+    let counted = called .before .before .before .before .before .before .before .before in
+    let second = counted .before .before .before in
+    let first = second .before .before .before in
+    let here = first .before .before in
+    block-on-bytes _ _ (here .if1 .taken) (lent-alike (first .read-input .ensures)) (lent-alike (second .read-input2 .ensures))
+    (room-alike (counted .room .ensures) _ (mid-len 0 _ _ (counted .room .ensures .within)))
+    (called .block-on-numbers .ensures)
 
 returns-2 : tie.Need-returns-2
 returns-2 c = on-other (c .if1 .left)

@@ -19,7 +19,9 @@ part-out-end : tie.Need-part-out-end
 part-out-end c = search needs
 
 close-on-numbers-requires : tie.Need-close-on-numbers-requires
-close-on-numbers-requires c κs = (c .before .before .before .before .before .if1 .taken, room-fits (c .before .before .before .room .ensures) _ (mid-len 0 _ _ (search needs)))
+close-on-numbers-requires c κs =
+    let counted = c .before .before .before in
+    (counted .before .before .if1 .taken, room-fits (counted .room .ensures) _ (mid-len 0 _ _ (search needs)))
 
 same-length : tie.Need-same-length
 same-length c = search needs
@@ -28,7 +30,10 @@ same-length-2 : tie.Need-same-length-2
 same-length-2 c = search needs
 
 returns : tie.Need-returns
-returns c = closing-on-bytes (c .before .before .before .before .before .before .before .before .before .before .before .if1 .taken) (room-alike (c .before .before .before .before .before .before .before .before .before .room .ensures) _ (mid-len 0 _ _ (c .before .before .before .before .before .before .before .before .before .room .ensures .within))) (c .before .before .before .before .before .close-on-numbers .ensures)
+returns c =
+    let called = c .before .before .before .before .before in
+    let counted = called .before .before .before .before in
+    closing-on-bytes (counted .before .before .if1 .taken) (room-alike (counted .room .ensures) _ (mid-len 0 _ _ (counted .room .ensures .within))) (called .close-on-numbers .ensures)
 
 returns-2 : tie.Need-returns-2
 returns-2 c = on-other (c .if1 .left)

@@ -45,7 +45,13 @@ same-length : tie.Need-same-length
 same-length c = search needs
 
 returns : tie.Need-returns
-returns c = opening-on-bytes _ _ _ _ _ _ _ (c .before .before .before .before .before .before .before .before .before .before .before .before .before .before .before .if1 .taken) (lent-alike (c .before .before .before .before .before .before .before .before .before .before .before .before .before .read-input .ensures)) (lent-alike (c .before .before .before .before .before .before .before .before .before .before .read-input2 .ensures)) (c .before .before .before .before .opening .ensures) (c .before .before .keep .ensures)
+returns c =
+    let kept = c .before .before in
+    let called = kept .before .before in
+    let second = called .before .before .before .before .before .before in
+    let first = second .before .before .before in
+    let here = first .before .before in
+    opening-on-bytes _ _ _ _ _ _ _ (here .if1 .taken) (lent-alike (first .read-input .ensures)) (lent-alike (second .read-input2 .ensures)) (called .opening .ensures) (kept .keep .ensures)
 
 returns-2 : tie.Need-returns-2
 returns-2 c = on-other (c .if1 .left)

@@ -48,7 +48,15 @@ same-length : tie.Need-same-length
 same-length c = search needs
 
 returns : tie.Need-returns
-returns c = schedule-on-bytes _ _ (c .before .before .before .before .before .before .before .before .before .before .before .before .before .before .before .before .before .if1 .taken) (lent-alike (c .before .before .before .before .before .before .before .before .before .before .before .before .before .before .before .read-input .ensures)) (lent-alike (c .before .before .before .before .before .before .before .before .before .before .before .before .read-input2 .ensures)) (called-in _ (c .before .before .before .before .before .before .before .before .before .load .ensures) (c .before .before .before .before .schedule .ensures)) (c .before .before .keep .ensures)
+returns c =
+    let kept = c .before .before in
+    let called = kept .before .before in
+    let loaded = called .before .before .before .before .before in
+    let second = loaded .before .before .before in
+    let first = second .before .before .before in
+    let here = first .before .before in
+    schedule-on-bytes _ _ (here .if1 .taken) (lent-alike (first .read-input .ensures)) (lent-alike (second .read-input2 .ensures))
+    (called-in _ (loaded .load .ensures) (called .schedule .ensures)) (kept .keep .ensures)
 
 returns-2 : tie.Need-returns-2
 returns-2 c = on-other (c .if1 .left)

@@ -1,0 +1,281 @@
+-- Demand 3 holds on the bytes: the theorem `byte-demand-3`, and that its lists of calls exist. The calls on bytes are calls on the numbers
+-- that the bytes hold, so `demand-3` applies. Assumes nothing.
+use Prim.Native.Nat.{ℕ, zero, suc, _^_}
+use mathlib.Core.Path.{_≡_, refl, sym, ap, _∙_, subst}
+use mathlib.Core.Bool.{Bool, true, false}
+use mathlib.Core.List.{List, [], _∷_, map}
+use native.Mathlib.Omega.{arith}
+use borrow.Author.Tests.{eqb-true, eqb-false, eq-eqb}
+use lib.Dec.{eqb}
+use lib.ListN.{length, take}
+use Rattle.lists.specs.Choice.{if_then_else_}
+use Rattle.arrays.specs.Bounds.{Moderate}
+use Rattle.codec.specs.Bytes.{encode}
+use Rattle.codec.specs.BytesLaws.{Below}
+use Rattle.record.specs.Book.{Book}
+use Rattle.record.specs.Stored.{stored}
+use Rattle.record.specs.StoredLaws.{figures-stored}
+use Rattle.record.specs.SoundLaws.{Facts, facts-cut}
+use Rattle.record.specs.Words.{words}
+use Rattle.record.specs.Called.{Called}
+use Rattle.record.specs.CalledLaws.{stored-number, stored-record, stored-output}
+use Rattle.record.specs.declared.Record.{Record}
+use Rattle.record.specs.declared.Answer.{Answer}
+use Rattle.layout.specs.LayoutLaws.{bytes-of-stored, record-of-bytes}
+use Rattle.agreement.specs.Opening.{Opening, openingRefusal, opened, Opened, Permitted}
+use Rattle.agreement.specs.OpeningLaws.{permitted-accepted}
+use Rattle.agreement.specs.Schedule.{scheduleRule, Scheduled}
+use Rattle.block.specs.Block.{blockRule}
+use Rattle.block.specs.Accepted.{block-output-moderate}
+use Rattle.bank.specs.Closing.{closingRule}
+use Rattle.closing.specs.RoomLaws.{closing-output-moderate}
+use Rattle.unit.specs.Calls.{Call, schedule, block, closing, ruleOf, next, bookAfter, bookAnswers}
+use Rattle.unit.specs.Trace.{Ask, askSchedule, askBlock, askClosing, callOf, Given, Done, Trace, trace-none, trace-one, lastRecord}
+use Rattle.unit.specs.Demand3Proof.{Kept, next-kept, opened-kept, demand-3, given, every-opening}
+use Rattle.wheeling.specs.Wheeling.{recordBytes, recordIn, numbersIn, bytesAfter, Stored, OnBytes, openingIn, ByteOpened}
+use Rattle.wheeling.specs.ReadingLaws.{numbers-encode, numbers-none, no-bytes}
+use Rattle.wheeling_book.specs.ByteTrace.{ByteAsk, byteSchedule, byteBlock, byteClosing, askIn, bytesLent, ByteGiven, givenIn, ByteDone, ByteTrace, bytes-none, bytes-one, lastBytes}
+use Rattle.wheeling_book.specs.ByteDemand3.{ByteMatch, ByteMatches, match-none, match-one, callsIn, ByteDemand3, ByteClaim}
+
+-- ---- every number of an accepted call's output fits its 8 bytes
+
+moderate-below : {xs : List ℕ} → Moderate xs → Below (256 ^ 8) xs
+moderate-below h i = omega (arith, h .at i)
+
+output-below : (b : Book) → Facts b → (k : Call) → ruleOf k .refusal b ≡ 0 → Below (256 ^ 8) (ruleOf k .output b)
+unfolding ruleOf scheduleRule closingRule
+output-below b f (schedule kws ranks) z = λ i. omega arith
+output-below b f (block entry exit size) z =
+    let rule = blockRule entry exit size in
+    rw (figures-stored b (facts-cut b f)) at (moderate-below (block-output-moderate (stored b) entry exit size (stored-number rule b f ∙ z)))
+output-below b f (closing size) z = moderate-below (closing-output-moderate b f)
+
+-- ---- the bytes of a record stored of the book
+
+module _ (b : Book) (f : Facts b) {s : List ℕ} (q : s ≡ encode 8 (words (stored b))) where
+  whole-record : length s ≡ recordBytes
+  whole-record = ap length q ∙ bytes-of-stored b
+
+  record-in : recordIn s ≡ stored b
+  unfolding recordIn
+  record-in = rw q (record-of-bytes b f)
+
+-- ---- one call, on the bytes s of the record stored of book b
+
+module _ (o : Opening) (b : Book) (h : Kept o b) (k : Call) {s lent s′ lent′ out : List ℕ} {x : Answer} {n : ℕ} (q : s ≡ encode 8 (words (stored b)))
+    (c : Called (ruleOf k) (recordIn s) (numbersIn 8 lent) (x .number) (x .after) out) (t : Stored x out s lent n s′ lent′) where
+  on-book : Called (ruleOf k) (stored b) (numbersIn 8 lent) (x .number) (x .after) out
+  on-book = subst (λ (r : Record). Called (ruleOf k) r (numbersIn 8 lent) (x .number) (x .after) out) (record-in b (h .facts) q) c
+
+  number-is : n ≡ ruleOf k .refusal b
+  number-is = t .number-is ∙ on-book .number-is ∙ stored-number (ruleOf k) b (h .facts)
+
+  after-is : x .after ≡ stored (next b k)
+  unfolding next
+  after-is = on-book .record-is ∙ stored-record (ruleOf k) b (h .facts)
+
+  out-is : out ≡ (if eqb (ruleOf k .refusal b) 0 then ruleOf k .output b else numbersIn 8 lent)
+  out-is = on-book .output-is ∙ stored-output (ruleOf k) b (h .facts) (numbersIn 8 lent)
+
+  bytes-are : s′ ≡ encode 8 (words (stored (next b k)))
+  unfolding bytesAfter next
+  bytes-are = go (eqb (ruleOf k .refusal b) 0) (subst (λ (m : ℕ). s′ ≡ bytesAfter m (words (x .after)) s) number-is (t .record-is)) after-is
+    where
+      go : (u : Bool) → s′ ≡ (if u then encode 8 (words (x .after)) else s) → x .after ≡ stored (if u then ruleOf k .after b else b) →
+          s′ ≡ encode 8 (words (stored (if u then ruleOf k .after b else b)))
+      go true p e = p ∙ ap (λ (r : Record). encode 8 (words r)) e
+      go false p e = p ∙ q
+
+  output-is : lent′ ≡ bytesAfter (ruleOf k .refusal b) (ruleOf k .output b) lent
+  unfolding bytesAfter
+  output-is = go (eqb (ruleOf k .refusal b) 0) (subst (λ (m : ℕ). lent′ ≡ bytesAfter m out lent) number-is (t .output-is)) out-is
+    where
+      go : (u : Bool) → lent′ ≡ (if u then encode 8 out else lent) → out ≡ (if u then ruleOf k .output b else numbersIn 8 lent) →
+          lent′ ≡ (if u then encode 8 (ruleOf k .output b) else lent)
+      go true p e = p ∙ ap (encode 8) e
+      go false p e = p
+
+  numbers-out : numbersIn 8 lent′ ≡ out
+  unfolding bytesAfter
+  numbers-out = go (eqb (ruleOf k .refusal b) 0) refl output-is out-is
+    where
+      go : (u : Bool) → eqb (ruleOf k .refusal b) 0 ≡ u → lent′ ≡ (if u then encode 8 (ruleOf k .output b) else lent) →
+          out ≡ (if u then ruleOf k .output b else numbersIn 8 lent) → numbersIn 8 lent′ ≡ out
+      go true z p e = ap (numbersIn 8) p ∙ numbers-encode (ruleOf k .output b) (output-below b (h .facts) k (eqb-true (ruleOf k .refusal b) 0 z)) ∙ sym e
+      go false z p e = ap (numbersIn 8) p ∙ sym e
+
+  numbers-called : Called (ruleOf k) (stored b) (numbersIn 8 lent) n (recordIn s′) (numbersIn 8 lent′)
+  numbers-called =
+      record {
+        number-is = t .number-is ∙ on-book .number-is;
+        record-is = record-in (next b k) (next-kept o b k h .facts) bytes-are ∙ sym after-is ∙ on-book .record-is;
+        output-is = numbers-out ∙ on-book .output-is;
+      }
+
+-- what one call gives, by the book
+record Step (o : Opening) (b : Book) (a : ByteAsk) (w : ByteGiven) : Type 0 where
+  done : Done (stored b) (askIn a) (givenIn w)
+  matches : ByteMatch a w (record { number = ruleOf (callOf (askIn a)) .refusal b; output = ruleOf (callOf (askIn a)) .output b })
+  left : w .bytes ≡ encode 8 (words (stored (next b (callOf (askIn a)))))
+
+module _ (o : Opening) (b : Book) (h : Kept o b) {s : List ℕ} (q : s ≡ encode 8 (words (stored b))) where
+  one-call : (a : ByteAsk) (w : ByteGiven) → ByteDone s a w → Step o b a w
+  unfolding ByteDone Done askIn givenIn callOf bytesLent ruleOf
+  one-call (byteSchedule kws ranks) w (d, e) =
+      let k = schedule (numbersIn 4 kws) (numbersIn 4 ranks) in
+      let got = d .whole (whole-record b (h .facts) q) in
+      let a = got .0 in
+      let c : Called (ruleOf k) (recordIn s) (numbersIn 8 []) (a .number) (a .after) [] = rw numbers-none (got .1 .1 .0) in
+      let t : Stored a [] s [] (w .number) (w .bytes) [] =
+      record { number-is = got .1 .1 .1 .number-is; record-is = got .1 .1 .1 .record-is; output-is = no-bytes (w .number) } in
+      record {
+        done = (rw numbers-none at (numbers-called o b h k q c t), ap (numbersIn 8) e ∙ numbers-none);
+        matches = record { number-is = number-is o b h k q c t; output-is = e ∙ output-is o b h k q c t };
+        left = bytes-are o b h k q c t;
+      }
+  one-call (byteBlock entry exit lent) w d =
+      let k = block (numbersIn 4 entry) (numbersIn 4 exit) (length (numbersIn 8 lent)) in
+      let got = d .whole (whole-record b (h .facts) q) in
+      let c = got .1 .1 .0 in
+      let t = got .1 .1 .1 in
+      record {
+        done = numbers-called o b h k q c t;
+        matches = record { number-is = number-is o b h k q c t; output-is = output-is o b h k q c t };
+        left = bytes-are o b h k q c t;
+      }
+  one-call (byteClosing lent) w d =
+      let k = closing (length (numbersIn 8 lent)) in
+      let got = d .whole (whole-record b (h .facts) q) in
+      let c = got .1 .1 .0 in
+      let t = got .1 .1 .1 in
+      record {
+        done = numbers-called o b h k q c t;
+        matches = record { number-is = number-is o b h k q c t; output-is = output-is o b h k q c t };
+        left = bytes-are o b h k q c t;
+      }
+
+-- ---- a list of calls
+
+given-after : (w : ByteGiven) (as′ : List Ask) (ws : List Given) {r : Record} → r ≡ recordIn (w .bytes) → Trace r as′ ws → Trace (givenIn w .answer .after) as′ ws
+unfolding givenIn
+given-after w as′ ws e t = subst (λ (r : Record). Trace r as′ ws) e t
+
+follows : (o : Opening) (b : Book) → Kept o b → (s : List ℕ) → s ≡ encode 8 (words (stored b)) → {asks : List ByteAsk} {ws : List ByteGiven} → ByteTrace s asks ws →
+    Trace (stored b) (map askIn asks) (map givenIn ws) × (ByteMatches asks ws (bookAnswers b (callsIn asks)) × (lastBytes s ws ≡ encode 8 (words (stored (bookAfter b (callsIn asks))))))
+unfolding bookAnswers bookAfter lastBytes
+follows o b h s q bytes-none = (trace-none, (match-none, q))
+follows o b h s q (bytes-one {a = a} {w = w} {as′ = as′} {ws = ws} d rest) =
+    let k = callOf (askIn a) in
+    let one = one-call o b h q a w d in
+    let next-facts = next-kept o b k h in
+    let ih = follows o (next b k) next-facts (w .bytes) (one .left) rest in
+    let after : recordIn (w .bytes) ≡ stored (next b k) = record-in (next b k) (next-facts .facts) (one .left) in
+    (trace-one (one .done) (given-after w (map askIn as′) (map givenIn ws) (sym after) (ih .0)), (match-one (one .matches) (ih .1 .0), ih .1 .1))
+
+trace-take : (n : ℕ) {s : List ℕ} {asks : List ByteAsk} {ws : List ByteGiven} → ByteTrace s asks ws → ByteTrace s (take n asks) (take n ws)
+trace-take zero t = bytes-none
+trace-take (suc n) bytes-none = bytes-none
+trace-take (suc n) (bytes-one d rest) = bytes-one d (trace-take n rest)
+
+last-record : (s : List ℕ) (ws : List ByteGiven) → lastRecord (recordIn s) (map givenIn ws) ≡ recordIn (lastBytes s ws)
+unfolding lastRecord lastBytes givenIn
+last-record s [] = refl
+last-record s (w ∷ ws) = last-record (w .bytes) ws
+
+module _ (o : Opening) (p : Permitted o) (s₀ : List ℕ) (q : s₀ ≡ encode 8 (words (stored (opened o)))) where
+  kept : Kept o (opened o)
+  kept = opened-kept o p
+
+  starts : recordIn s₀ ≡ stored (opened o)
+  starts = record-in (opened o) (kept .facts) q
+
+  opened-numbers : Opened o 0 (recordIn s₀)
+  opened-numbers =
+      let z = permitted-accepted o p in
+      record { number-is = sym z; record-is = starts ∙ rw (eq-eqb (openingRefusal o) 0 z) }
+
+  demand : (asks : List ByteAsk) (ws : List ByteGiven) → ByteTrace s₀ asks ws → ByteDemand3 o asks ws (lastBytes s₀ ws)
+  demand asks ws t =
+      let f = follows o (opened o) kept s₀ q t in
+      let numbers : Trace (recordIn s₀) (map askIn asks) (map givenIn ws) = subst (λ (r : Record). Trace r (map askIn asks) (map givenIn ws)) (sym starts) (f .0) in
+      record {
+        answers = f .1 .0;
+        bytes-are = f .1 .1;
+        numbers = rw (last-record s₀ ws) at (demand-3 o p 0 (recordIn s₀) opened-numbers .1 (map askIn asks) (map givenIn ws) numbers .0);
+      }
+
+pub byte-demand-3 : ByteClaim
+unfolding bytesAfter
+byte-demand-3 G C rate cycle gone generators pairs p before l number s₀ start =
+    let o = openingIn G C rate cycle gone generators pairs in
+    let got = start .whole l in
+    let a = got .0 in
+    let given : Opened o (a .number) (a .after) = got .1 .1 .0 in
+    let z = permitted-accepted o p in
+    let accepted : number ≡ 0 = got .1 .1 .1 .number-is ∙ given .number-is ∙ z in
+    let after : a .after ≡ stored (opened o) = given .record-is ∙ rw (eq-eqb (openingRefusal o) 0 z) in
+    let left : s₀ ≡ encode 8 (words (a .after)) = rw accepted at (got .1 .1 .1 .record-is) in
+    let q : s₀ ≡ encode 8 (words (stored (opened o))) = left ∙ ap (λ (r : Record). encode 8 (words r)) after in
+    (accepted, λ asks ws t. (demand o p s₀ q asks ws t, λ n. demand o p s₀ q (take n asks) (take n ws) (trace-take n t)))
+
+-- ---- no list of calls is ruled out
+
+-- what a call on bytes gives, where the record is whole or not, by what the call on numbers gives
+abbrev picked : (whole : Bool) (refusal : ℕ) (a : Answer) (out s lent : List ℕ) → ByteGiven
+picked true refusal a out s lent = record { number = a .number; bytes = bytesAfter (a .number) (words (a .after)) s; out = bytesAfter (a .number) out lent }
+picked false refusal a out s lent = record { number = refusal; bytes = s; out = lent }
+
+module _ (refusal : ℕ) (a : Answer) (out s lent : List ℕ) where
+  givenBytes : ByteGiven
+  givenBytes = picked (eqb (length s) recordBytes) refusal a out s lent
+
+  given-bytes : (ensured : Answer → List ℕ → Type 0) → ensured a out → OnBytes refusal ensured s lent (givenBytes .number) (givenBytes .bytes) (givenBytes .out)
+  unfolding givenBytes
+  given-bytes ensured h = go (eqb (length s) recordBytes) refl
+    where
+      go : (t : Bool) → eqb (length s) recordBytes ≡ t → let w = picked t refusal a out s lent in OnBytes refusal ensured s lent (w .number) (w .bytes) (w .out)
+      go true e =
+          record {
+            whole = λ l. (a, (out, (h, record { number-is = refl; record-is = refl; output-is = refl })));
+            other = λ ne. absurd (ne (eqb-true (length s) recordBytes e));
+          }
+      go false e = record { whole = λ l. absurd (eqb-false (length s) recordBytes e l); other = λ ne. (refl, (refl, refl)) }
+
+-- without an output
+given-silent : (refusal : ℕ) (a : Answer) (s : List ℕ) → givenBytes refusal a [] s [] .out ≡ []
+unfolding givenBytes
+given-silent refusal a s = go (eqb (length s) recordBytes)
+  where
+    go : (t : Bool) → picked t refusal a [] s [] .out ≡ []
+    go true = sym (no-bytes (a .number))
+    go false = refl
+
+byte-given : (s : List ℕ) (a : ByteAsk) → (w : ByteGiven) × ByteDone s a w
+unfolding ByteDone Done
+byte-given s (byteSchedule kws ranks) =
+    let g = given (recordIn s) (askSchedule (numbersIn 4 kws) (numbersIn 4 ranks)) in
+    let w = givenBytes 1 (g .0 .answer) [] s [] in
+    let ensured : Answer → List ℕ → Type 0 = λ a out. Scheduled (recordIn s) (numbersIn 4 kws) (numbersIn 4 ranks) a in
+    let none = given-silent 1 (g .0 .answer) s in
+    (w, (subst (λ (l : List ℕ). OnBytes 1 ensured s [] (w .number) (w .bytes) l) none (given-bytes 1 (g .0 .answer) [] s [] ensured (g .1 .0)), none))
+byte-given s (byteBlock entry exit lent) =
+    let g = given (recordIn s) (askBlock (numbersIn 4 entry) (numbersIn 4 exit) (numbersIn 8 lent)) in
+    (givenBytes 1 (g .0 .answer) (g .0 .out) s lent, given-bytes 1 (g .0 .answer) (g .0 .out) s lent _ (g .1))
+byte-given s (byteClosing lent) =
+    let g = given (recordIn s) (askClosing (numbersIn 8 lent)) in
+    (givenBytes 1 (g .0 .answer) (g .0 .out) s lent, given-bytes 1 (g .0 .answer) (g .0 .out) s lent _ (g .1))
+
+pub every-byte-list : (s : List ℕ) (asks : List ByteAsk) → (ws : List ByteGiven) × ByteTrace s asks ws
+every-byte-list s [] = ([], bytes-none)
+every-byte-list s (a ∷ as′) =
+    let first = byte-given s a in
+    let rest = every-byte-list (first .0 .bytes) as′ in
+    (first .0 ∷ rest .0, bytes-one (first .1) (rest .1))
+
+pub every-byte-opening : (o : Opening) (s : List ℕ) → (number : ℕ) × (s′ : List ℕ) × ByteOpened o s number s′
+every-byte-opening o s =
+    let g = every-opening o in
+    let a : Answer = record { number = g .0; after = g .1 } in
+    let w = givenBytes 2 a [] s [] in
+    let ensured : Answer → List ℕ → Type 0 = λ a out. Opened o (a .number) (a .after) in
+    (w .number, w .bytes, subst (λ (l : List ℕ). OnBytes 2 ensured s [] (w .number) (w .bytes) l) (given-silent 2 a s) (given-bytes 2 a [] s [] ensured (g .2)))

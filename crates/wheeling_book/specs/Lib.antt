@@ -1,0 +1,3 @@
+pub mod ByteTrace
+pub mod ByteDemand3
+pub mod ByteDemand3Proof
