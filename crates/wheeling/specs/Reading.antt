@@ -34,3 +34,8 @@ pub record Room (lent : List ℕ) (k n : ℕ) : Type 0 where
 pub record Kept (a : Answer) (bytes : List ℕ) (number : ℕ) (bytes′ : List ℕ) : Type 0 where
   pub number-is : number ≡ a .number
   pub record-is : bytes′ ≡ bytesAfter number (words (a .after)) bytes
+
+-- and its output written
+pub record Written (refusal : ℕ) (out lent : List ℕ) (number : ℕ) (lent′ : List ℕ) : Type 0 where
+  pub number-is : number ≡ refusal
+  pub output-is : lent′ ≡ bytesAfter refusal out lent

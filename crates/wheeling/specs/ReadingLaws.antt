@@ -17,7 +17,7 @@ use Rattle.codec.specs.BytesLaws.{Below, length-encode, length-decode, decode-e
 use Rattle.record.specs.Words.{words}
 use Rattle.record.specs.declared.Answer.{Answer}
 use Rattle.wheeling.specs.Wheeling.{numbersIn, bytesAfter}
-use Rattle.wheeling.specs.Reading.{AlikeSize, Alike, Taken, Fits, Room, Kept}
+use Rattle.wheeling.specs.Reading.{AlikeSize, Alike, Taken, Fits, Room, Kept, Written}
 
 module _ (w : ℕ) (bytes : List ℕ) where
   pub numbers-whole : length bytes % w ≡ 0 → numbersIn w bytes ≡ decode w (length bytes / w) bytes
@@ -93,6 +93,15 @@ module _ {a : Answer} {bytes : List ℕ} where
   pub kept-refused : (a .number ≡ 0 → ⊥) → Kept a bytes (a .number) bytes
   unfolding bytesAfter
   kept-refused z = record { number-is = refl; record-is = rw (ne-eqb (a .number) 0 z) }
+
+module _ {out lent : List ℕ} {refusal : ℕ} where
+  pub written-accepted : {lent′ : List ℕ} → refusal ≡ 0 → lent′ ≡ encode 8 out → Written refusal out lent 0 lent′
+  unfolding bytesAfter
+  written-accepted z e = record { number-is = sym z; output-is = rw (eq-eqb refusal 0 z) e }
+
+  pub written-refused : (refusal ≡ 0 → ⊥) → Written refusal out lent refusal lent
+  unfolding bytesAfter
+  written-refused z = record { number-is = refl; output-is = rw (ne-eqb refusal 0 z) }
 
 -- numbers that fit 8 bytes are read back from their bytes
 pub numbers-encode : (ws : List ℕ) → Below (256 ^ 8) ws → numbersIn 8 (encode 8 ws) ≡ ws

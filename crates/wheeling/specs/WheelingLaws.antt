@@ -6,12 +6,12 @@ use mathlib.Core.List.{List, []}
 use mathlib.Core.Logic.{_⊎_, inl, inr, ⊎-elim}
 use native.Mathlib.Omega.{arith}
 use native.Mathlib.Nat.{mul-le-mul}
-use borrow.Author.Tests.{eqb-true, ne-eqb}
+use borrow.Author.Tests.{eqb-true}
 use lib.Dec.{eqb}
 use lib.ListN.{length}
 use Rattle.lists.specs.Choice.{if_then_else_}
 use Rattle.codec.specs.Bytes.{encode, decode}
-use Rattle.record.specs.Words.{recordOf}
+use Rattle.record.specs.Words.{words, recordOf}
 use Rattle.record.specs.Stored.{figures}
 use Rattle.record.specs.Sound.{sound}
 use Rattle.record.specs.SoundLaws.{Facts}
@@ -30,7 +30,7 @@ use Rattle.bank.specs.Closing.{closingLength, closingRefusal, closingRule, Clos
 use Rattle.bank.specs.ClosingLaws.{closing-sized}
 use Rattle.wheeling.specs.Wheeling.{recordBytes, recordIn, numbersIn, bytesAfter, Stored, Done, OnBytes, openingIn, ByteOpened, ByteScheduled, ByteBlocked, ByteClosed}
 use Rattle.wheeling.specs.ReadingLaws.{no-bytes}
-use Rattle.wheeling.specs.Reading.{AlikeSize, Alike, Kept}
+use Rattle.wheeling.specs.Reading.{AlikeSize, Alike, Kept, Written}
 
 -- ---- a call does not tell lists apart that are too long for it
 
@@ -181,17 +181,24 @@ pub called-in : {rule : Rule} {r r′ : Record} {lent out : List ℕ} {n : ℕ} 
 unfolding recordIn
 called-in {rule} {r} {r′} {lent} {out} {n} bytes e c = subst (λ (x : Record). Called rule x lent n r′ out) e c
 
-module _ {rule : Rule} {r : Record} {lentNumbers out bytes bytes′ : List ℕ} {a : Answer} {n : ℕ} (h : Called rule r lentNumbers (a .number) (a .after) out) (k : Kept a bytes n bytes′) where
-  abbrev ensured : Answer → List ℕ → Type 0
-  ensured a out = Called rule r lentNumbers (a .number) (a .after) out
-
-  pub done-accepted : {lent lent′ : List ℕ} → n ≡ 0 → lent′ ≡ encode 8 out → Done ensured bytes lent 0 bytes′ lent′
-  unfolding bytesAfter
-  done-accepted z e = (a, (out, (h, record { number-is = sym z ∙ k .number-is; record-is = rw z at (k .record-is); output-is = e })))
-
-  pub done-refused : {lent : List ℕ} → (n ≡ 0 → ⊥) → Done ensured bytes lent n bytes′ lent
-  unfolding bytesAfter
-  done-refused z = (a, (out, (h, record { number-is = k .number-is; record-is = k .record-is; output-is = rw (ne-eqb n 0 z) })))
+pub done : {rule : Rule} {r : Record} {numbers out bytes lent bytes′ lent′ : List ℕ} {a : Answer} {n m : ℕ} →
+    Called rule r numbers (a .number) (a .after) out → Kept a bytes n bytes′ → Written n out lent m lent′ →
+    Done (λ (a : Answer) (out : List ℕ). Called rule r numbers (a .number) (a .after) out) bytes lent m bytes′ lent′
+done {out = out} {bytes} {lent} {bytes′} {lent′} {a} {n} {m} c k w =
+    let e = sym (w .number-is) in (
+      a,
+      (
+        out,
+        (
+          c,
+          record {
+            number-is = w .number-is ∙ k .number-is;
+            record-is = subst (λ (i : ℕ). bytes′ ≡ bytesAfter i (words (a .after)) bytes) e (k .record-is);
+            output-is = subst (λ (i : ℕ). lent′ ≡ bytesAfter i out lent) e (w .output-is);
+          },
+        ),
+      ),
+    )
 
 -- schedule has no output
 silent : {r r′ : Record} {n : ℕ} {out : List ℕ} (kws ranks : List ℕ) → Called (scheduleRule kws ranks) r [] n r′ out → Called (scheduleRule kws ranks) r [] n r′ []

@@ -1,12 +1,13 @@
 // The four calls of a C host. Every list is bytes, low byte first: 4 a number in the inputs, 8 in the outputs and in the record.
 ghost use mathlib.Core.Path.{_≡_};
-ghost use mathlib.Core.List.{[]};
-ghost use Prim.Native.Nat.{_≤_};
+ghost use Prim.Native.Nat.{_*_, _≤_};
 ghost use lib.ListN.{length};
 ghost use Rattle.block.specs.Block.{Blocked};
 ghost use Rattle.bank.specs.Closing.{Closed};
 ghost use Rattle.wheeling.specs.Wheeling.{recordIn, numbersIn, Done, openingIn, ByteOpened, ByteScheduled, ByteBlocked, ByteClosed};
-ghost use Rattle.wheeling.specs.Reading.{Taken, Fits, Room, Kept};
+ghost use Rattle.wheeling.specs.Reading.{Taken, Fits, Room, Kept, Written};
+
+const RECORD_BYTES: usize = 5752;
 
 // Reads the numbers of an input into the front of `out`, and returns how many there are. Bytes that are no whole count of numbers, or
 // too many for `out`, count as all of `out`: it has more places than any agreement takes, so the call refuses them as a wrong length.
@@ -52,7 +53,19 @@ fn keep(a: record::Answer, bytes: &mut [u8]) -> u32
     number
 }
 
-// A block whose lists are read; its output is written as numbers, then as bytes where it is accepted.
+// Writes the output of an accepted call; returns the call's number.
+fn give(refusal: u32, out: &[u64], output: &mut [u8]) -> u32
+    requires { ⌜ (refusal ≡ 0 → length (now output) ≡ 8 * length (now out)) ⌝ }
+    ensures { λ r. ⌜ Written refusal (now (out .entry)) (now (output .entry)) r (now (output .exit)) ⌝ }
+{
+    if refusal == 0 {
+        codec::write8(out, output);
+        return 0;
+    }
+    refusal
+}
+
+// A block whose lists are read; `out` is room for its output as numbers.
 fn block_on_numbers(
     bytes: &mut [u8],
     entry: &[u32],
@@ -66,11 +79,7 @@ fn block_on_numbers(
     let r = layout::load(bytes);
     let a = block::block(r, entry, exit, out);
     let number = keep(a, bytes);
-    if number == 0 {
-        codec::write8(out, output);
-        return 0;
-    }
-    number
+    give(number, out, output)
 }
 
 fn close_on_numbers(bytes: &mut [u8], out: &mut [u64], output: &mut [u8]) -> u32
@@ -80,11 +89,7 @@ fn close_on_numbers(bytes: &mut [u8], out: &mut [u64], output: &mut [u8]) -> u32
     let r = layout::load(bytes);
     let a = closing::close(r, out);
     let number = keep(a, bytes);
-    if number == 0 {
-        codec::write8(out, output);
-        return 0;
-    }
-    number
+    give(number, out, output)
 }
 
 #[no_mangle]
@@ -100,7 +105,7 @@ pub extern "C" fn wheeling_open(
 ) -> u32
     ensures { λ r. ⌜ ByteOpened (openingIn generators consumers rate cycle gone (now («generator_list» .entry)) (now («pair_list» .entry))) (now («record» .entry)) r (now («record» .exit)) ⌝ }
 {
-    if record.len() == 5752 {
+    if record.len() == RECORD_BYTES {
         let mut agreed = [0u32; 25];
         let n = read_input(generator_list, &mut agreed);
         let mut pairs = [0u32; 257];
@@ -123,7 +128,7 @@ pub extern "C" fn wheeling_open(
 pub extern "C" fn wheeling_schedule(record: &mut [u8], kw_list: &[u8], rank_list: &[u8]) -> u32
     ensures { λ r. ⌜ ByteScheduled (now («record» .entry)) (now («kw_list» .entry)) (now («rank_list» .entry)) r (now («record» .exit)) ⌝ }
 {
-    if record.len() == 5752 {
+    if record.len() == RECORD_BYTES {
         let mut kw = [0u32; 129];
         let n = read_input(kw_list, &mut kw);
         let mut ranks = [0u32; 129];
@@ -144,7 +149,7 @@ pub extern "C" fn wheeling_block(
 ) -> u32
     ensures { λ r. ⌜ ByteBlocked (now («record» .entry)) (now («entry_list» .entry)) (now («exit_list» .entry)) (now (output .entry)) r (now («record» .exit)) (now (output .exit)) ⌝ }
 {
-    if record.len() == 5752 {
+    if record.len() == RECORD_BYTES {
         let mut entry = [0u32; 9];
         let n = read_input(entry_list, &mut entry);
         let mut exit = [0u32; 17];
@@ -160,7 +165,7 @@ pub extern "C" fn wheeling_block(
 pub extern "C" fn wheeling_close(record: &mut [u8], output: &mut [u8]) -> u32
     ensures { λ r. ⌜ ByteClosed (now («record» .entry)) (now (output .entry)) r (now («record» .exit)) (now (output .exit)) ⌝ }
 {
-    if record.len() == 5752 {
+    if record.len() == RECORD_BYTES {
         let mut out = [0u64; 185];
         let k = room(output, 185);
         return close_on_numbers(record, &mut out[0..k], output);

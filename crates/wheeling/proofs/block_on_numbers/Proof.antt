@@ -2,7 +2,7 @@
 use borrow.Author.Needs.{needs}
 use mathlib.Core.Path.{_∙_, sym}
 use native.Mathlib.Omega.{arith}
-use Rattle.wheeling.specs.WheelingLaws.{called-in, block-room, done-accepted, done-refused}
+use Rattle.wheeling.specs.WheelingLaws.{called-in, done, block-room}
 use Rattle.wheeling.proofs.block_on_numbers.Statement.{statement}
 use Rattle.wheeling.proofs.block_on_numbers.Tie as tie
 
@@ -15,13 +15,12 @@ block-requires c κs = search needs
 keep-requires : tie.Need-keep-requires
 keep-requires c κs = search needs
 
-write8-requires : tie.Need-write8-requires
-write8-requires c κs =
-    let kept = c .before .before .before .before .before in
+give-requires : tie.Need-give-requires
+give-requires c κs =
+    let kept = c .before .before .before .before in
     let called = kept .before .before .before .before in
     let start = called .before .before .before .before .before .before .before .before .before in
-    let accepted = sym (kept .keep .ensures .number-is) ∙ c .before .before .if1 .taken in
-    omega (arith, start .pre .1 (block-room _ _ _ (called .block .ensures) accepted), called .block .kept .1 .1 .1 .0)
+    λ z. let accepted = sym (kept .keep .ensures .number-is) ∙ z in omega (arith, start .pre .1 (block-room _ _ _ (called .block .ensures) accepted), called .block .kept .1 .1 .1 .0)
 
 same-length : tie.Need-same-length
 same-length c = search needs
@@ -34,25 +33,11 @@ same-length-3 c = search needs
 
 returns : tie.Need-returns
 returns c =
-    let written = c .before .before in
-    let tested = written .before .before .before in
-    let kept = tested .before .before .before in
+    let given = c .before .before in
+    let kept = given .before .before .before .before .before in
     let called = kept .before .before .before .before in
     let loaded = called .before .before in
-    done-accepted (called-in _ (loaded .load .ensures) (called .block .ensures)) (kept .keep .ensures) (tested .if1 .taken) (written .write8 .ensures)
-
-same-length-4 : tie.Need-same-length-4
-same-length-4 c = search needs
-
-same-length-5 : tie.Need-same-length-5
-same-length-5 c = search needs
-
-returns-2 : tie.Need-returns-2
-returns-2 c =
-    let kept = c .before .before .before in
-    let called = kept .before .before .before .before in
-    let loaded = called .before .before in
-    done-refused (called-in _ (loaded .load .ensures) (called .block .ensures)) (kept .keep .ensures) (c .if1 .left)
+    done (called-in _ (loaded .load .ensures) (called .block .ensures)) (kept .keep .ensures) (given .give .ensures)
 
 pub block-on-numbers-spec : {M : Type 1} → statement M
 block-on-numbers-spec =
@@ -61,11 +46,8 @@ block-on-numbers-spec =
     load-requires
     block-requires
     keep-requires
-    write8-requires
+    give-requires
     same-length
     same-length-2
     same-length-3
-    returns
-    same-length-4
-    same-length-5
-    returns-2)
+    returns)
