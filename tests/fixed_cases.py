@@ -8,6 +8,7 @@ from itertools import combinations
 
 from second.calls import (Call, SecondUnit, block_call, close_call, new_record_call, open_call,
                           packed, schedule_call, write_call)
+from second.document_cases import DOCUMENT_CASES
 from second.engine import (CONSUMER_PLACES, CONSUMER_TERMS, GENERATOR_PLACES, GENERATOR_TERMS,
                            RECORD_BYTES, RECORD_FORM, RECORD_WORDS, Engine, record_from_bytes,
                            record_to_bytes)
@@ -476,11 +477,12 @@ def unsound_records():
             set_to(name, 1, *place)(record)
             yield f"{what} beyond, {name}", [new_record_call(record_to_bytes(record))] \
                 + calls_on(*size)
-    # Both equations hold beyond G and C, too, but the places are not 0.
-    record = used_record(2, 2)
-    record.injected[2] = record.bank[2] = 1
-    record.metered[2] = record.open[2] = 1
-    yield "balanced totals beyond", [new_record_call(record_to_bytes(record))] + calls_on(2, 2)
+    # The equation holds beyond G or C, too, but the places are not 0.
+    for side, whole, part in (("G", "injected", "bank"), ("C", "metered", "open")):
+        record = used_record(2, 2)
+        getattr(record, whole)[2] = getattr(record, part)[2] = 1
+        yield f"balanced totals beyond {side}", [
+            new_record_call(record_to_bytes(record))] + calls_on(2, 2)
 
 
 def each_word_damaged():
@@ -632,6 +634,7 @@ def fixed_cases():
     yield from unsound_records()
     yield from unreached_records()
     yield from smaller_things()
+    yield from DOCUMENT_CASES.items()
     yield from full_months()
     yield from each_word_damaged()
     # Last, since they are many and a wrong rule shows before.
