@@ -1,7 +1,7 @@
 #!/usr/bin/env python3
 """The test program: runs the library's four C calls and the second engine side by side.
 
-    compare.py LIBRARY.so [--lists N] [--months N] [--seed S] [--seconds T]
+    compare.py LIBRARY.so [--lists N] [--months N] [--seed S] [--seconds T] [--unshrunk]
     compare.py LIBRARY.so --replay FILE
 
 Compared byte for byte after each call: the number, the record and the output; also that the inputs
@@ -25,7 +25,7 @@ from collections import Counter
 from fixed_cases import fixed_cases
 from library import Library, Pair
 from random_calls import calls_of
-from second.calls import SecondUnit, from_text, packed, to_text
+from second.calls import HOST_WRITES, SecondUnit, from_text, packed, to_text
 from second.demand_3 import broken_by_record, idle_bank
 from second.engine import ACCEPTED, Engine, inputs_from_bytes, record_from_bytes
 
@@ -69,7 +69,7 @@ def run_list(library, calls, on_call, seen, only_calls, seconds, turn=0):
             call = calls.send(outcome)
         except StopIteration:
             break
-        on_call(at)
+        on_call(at, call)
         outcome, found = pair.do(call)
         if only_calls and call.name == "close" and outcome.number == ACCEPTED:
             found = found + broken_sentences(outcome)
@@ -94,8 +94,9 @@ def run_everything(path, arguments, position, answer):
                 break
             position[1] = index
 
-            def on_call(at):
+            def on_call(at, call):
                 position[2] = at
+                position[3] += call.name not in HOST_WRITES
 
             if run_list(library, calls, on_call, seen, kind == "month", LONGEST_LIST_SECONDS):
                 answer.send(("difference",))
@@ -144,7 +145,7 @@ def trial(path, calls, only_calls=False):
     position = process.Array("q", 1, lock=False)
 
     def run():
-        def on_call(at):
+        def on_call(at, _):
             position[0] = at
         # Where memory is lent depends on the turn: a dropped call must not hide a difference.
         library = Library(path)
@@ -240,8 +241,7 @@ def shrunk(path, calls, only_calls):
     return calls, result
 
 
-def report(path, name, calls, seed, only_calls):
-    print(f"DIFFERENCE in {name}, call {len(calls)} ({calls[-1].name}); seed {seed}")
+def report(path, calls, only_calls):
     short, result = shrunk(path, calls, only_calls)
     if result is None:
         print("the list by itself gives no difference; all its calls:")
@@ -279,6 +279,8 @@ def main():
     parser.add_argument("--seconds", type=float,
                         help="start no further list after half of these seconds, "
                              "no further month after the other half")
+    parser.add_argument("--unshrunk", action="store_true",
+                        help="only say where the first difference is")
     parser.add_argument("--replay", metavar="FILE", help="run only the calls in this file")
     arguments = parser.parse_args()
     path = arguments.library if "/" in arguments.library else "./" + arguments.library
@@ -292,7 +294,7 @@ def main():
 
     print(f"seed {arguments.seed}", flush=True)
     receive, send = process.Pipe(duplex=False)
-    position = process.Array("q", 3, lock=False)
+    position = process.Array("q", 4, lock=False)
     worker = process.Process(target=run_or_tell, args=(path, arguments, position, send))
     worker.start()
     send.close()
@@ -318,7 +320,10 @@ def main():
             print(how_it_ended(worker.exitcode))
         kind = STRETCHES[position[0]]
         name, calls = calls_made(kind, position[1], arguments.seed, position[2])
-        report(path, name, calls, arguments.seed, only_calls=kind == "month")
+        print(f"DIFFERENCE in {name}, call {len(calls)} of it ({calls[-1].name}), "
+              f"{position[3]} calls after the start; seed {arguments.seed}")
+        if not arguments.unshrunk:
+            report(path, calls, only_calls=kind == "month")
         return 1
 
     print("number      " + "".join(f"{number:>7}" for number in range(14)))

@@ -4,7 +4,8 @@ the library and the second engine side by side."""
 import ctypes
 import mmap
 
-from second.calls import (INPUT_NAMES, PATTERN, Outcome, SecondUnit, lent_record, written)
+from second.calls import (HOST_WRITES, INPUT_NAMES, PATTERN, Outcome, SecondUnit, lent_record,
+                          written)
 from second.engine import (CONSUMER_PLACES, CONSUMER_TERMS, GENERATOR_PLACES, GENERATOR_TERMS,
                            PAIR_LISTS, RECORD_BYTES, Engine)
 
@@ -75,7 +76,7 @@ class LibraryUnit:
 
     def do(self, call):
         """Gives the outcome and what the library touched that it must not touch."""
-        if call.name in ("write", "new_record"):
+        if call.name in HOST_WRITES:
             self.record = written(call, self.record)
             return Outcome(None, self.record, b""), []
         # In turn at the end of the memory and at each remainder of an address by 8.

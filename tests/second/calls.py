@@ -25,6 +25,7 @@ class Call(NamedTuple):
     words: tuple = ()  # write, new_record: (place, value) pairs; new_record leaves the others 0
 
 
+HOST_WRITES = ("write", "new_record")
 INPUT_NAMES = {"open": ("generator_list", "pair_list"), "schedule": ("kw", "ranks"),
                "block": ("entry", "exit"), "close": (), "write": (), "new_record": ()}
 NUMBER_NAMES = ("generators", "consumers", "rate", "cycle", "gone")
@@ -92,7 +93,7 @@ class SecondUnit:
         self.record = PATTERN[:RECORD_BYTES]
 
     def do(self, call):
-        if call.words or call.name in ("write", "new_record"):
+        if call.words or call.name in HOST_WRITES:
             self.record = written(call, self.record)
             return Outcome(None, self.record, b"")
         record = lent_record(call, self.record)
@@ -126,7 +127,7 @@ def to_text(call):
         shown["record_bytes"] = call.record_bytes
     if call.name in ("block", "close"):
         shown["output_bytes"] = call.output_bytes
-    if call.name in ("write", "new_record"):
+    if call.name in HOST_WRITES:
         shown["words"] = call.words
     return json.dumps(shown)
 

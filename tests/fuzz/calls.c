@@ -1,0 +1,522 @@
+/* Fuzz target: the bytes of one input become a list of calls on one unit, and each call is made on
+ * several engines side by side. After every call the number, the record, the output, the inputs and
+ * the guard bytes around all of them are compared; a difference ends the process.
+ *
+ *   wheeling_*          the library as it is delivered
+ *   traced_wheeling_*   the same source compiled with coverage counters: the fuzzer's guide
+ *   plain_*             the plain Rust engine of bench/plain
+ *
+ * With WITHOUT_FUZZER defined it is a program that runs the files named, for valgrind: without the
+ * traced engine, and with every buffer a block of its own of exactly the length lent.
+ *
+ * Any bytes are a list of calls: a number is taken from the bytes by its kind, so that most calls
+ * are allowed and some are not; where the bytes end, zeros follow. */
+
+#define _DEFAULT_SOURCE /* MAP_ANONYMOUS */
+#include <stdint.h>
+#include <stdio.h>
+#include <stdlib.h>
+#include <string.h>
+#include <sys/mman.h>
+
+enum {
+    MOST_GENERATORS = 8,
+    MOST_CONSUMERS = 16,
+    MOST_PAIRS = MOST_GENERATORS * MOST_CONSUMERS,
+    RECORD_NUMBERS = 719,
+    RECORD_BYTES = 8 * RECORD_NUMBERS,
+    MOST_CALLS = 200, /* of one input */
+
+    /* places in the record, counted in numbers */
+    AT_GENERATORS = 0,
+    AT_CONSUMERS = 1,
+    AT_UNIT_BLOCKS = 5,
+    AT_MONTH_BLOCKS = 6,
+    AT_AGREED = 7,
+    AT_LINKS = 31,
+    AT_INJECTED = 543,
+    AT_METERED = 623,
+};
+
+#define INTERFACE(prefix)                                                                     \
+    uint32_t prefix##_open(uint32_t, uint32_t, uint32_t, uint32_t, uint32_t, const uint8_t *, \
+                           size_t, const uint8_t *, size_t, uint8_t *, size_t);               \
+    uint32_t prefix##_schedule(uint8_t *, size_t, const uint8_t *, size_t, const uint8_t *,   \
+                               size_t);                                                       \
+    uint32_t prefix##_block(uint8_t *, size_t, const uint8_t *, size_t, const uint8_t *,      \
+                            size_t, uint8_t *, size_t);                                       \
+    uint32_t prefix##_close(uint8_t *, size_t, uint8_t *, size_t);
+
+INTERFACE(wheeling)
+INTERFACE(traced_wheeling)
+INTERFACE(plain)
+
+struct engine {
+    const char *name;
+    uint32_t (*open)(uint32_t, uint32_t, uint32_t, uint32_t, uint32_t, const uint8_t *, size_t,
+                     const uint8_t *, size_t, uint8_t *, size_t);
+    uint32_t (*schedule)(uint8_t *, size_t, const uint8_t *, size_t, const uint8_t *, size_t);
+    uint32_t (*block)(uint8_t *, size_t, const uint8_t *, size_t, const uint8_t *, size_t,
+                      uint8_t *, size_t);
+    uint32_t (*close)(uint8_t *, size_t, uint8_t *, size_t);
+};
+
+#define ENGINE(prefix) {#prefix, prefix##_open, prefix##_schedule, prefix##_block, prefix##_close}
+static const struct engine ENGINES[] = {
+    ENGINE(plain),
+    ENGINE(wheeling),
+#ifndef WITHOUT_FUZZER
+    ENGINE(traced_wheeling),
+#endif
+};
+enum { ENGINE_COUNT = sizeof ENGINES / sizeof *ENGINES };
+
+static uint64_t calls_made, calls_by_number[14];
+
+static void differs(const char *engine, const char *what)
+{
+    fprintf(stderr, "DIFFERENCE: plain and %s: %s\n", engine, what);
+    abort();
+}
+
+/* ---- lent memory ---- */
+
+enum { MOST_LENT = 8192, PAGE = 4096, GUARD = 64, GUARD_BYTE = 0x5b };
+
+/* One buffer of an engine. Its bytes end at a page that faults, or stand between guard bytes. */
+struct lent {
+    uint8_t *memory; /* MOST_LENT bytes, then the page that faults */
+    uint8_t *start;
+    size_t size;
+};
+
+#ifdef WITHOUT_FUZZER
+
+static uint8_t *lend(struct lent *lent, const uint8_t *bytes, size_t size, int turn)
+{
+    (void)turn;
+    lent->start = malloc(size ? size : 1);
+    if (lent->start == NULL)
+        abort();
+    lent->size = size;
+    memcpy(lent->start, bytes, size);
+    return lent->start;
+}
+
+static int guards_whole(const struct lent *lent)
+{
+    (void)lent;
+    return 1; /* valgrind watches what stands around the block */
+}
+
+static void take_back(struct lent *lent)
+{
+    free(lent->start);
+}
+
+#else
+
+static uint8_t *lend(struct lent *lent, const uint8_t *bytes, size_t size, int turn)
+{
+    if (lent->memory == NULL) {
+        lent->memory = mmap(NULL, MOST_LENT + PAGE, PROT_READ | PROT_WRITE,
+                            MAP_PRIVATE | MAP_ANONYMOUS, -1, 0);
+        if (lent->memory == MAP_FAILED || mprotect(lent->memory + MOST_LENT, PAGE, PROT_NONE))
+            abort();
+    }
+    /* In turn at the end of the memory and at each remainder of an address by 8. */
+    lent->start = turn % 2 ? lent->memory + MOST_LENT - size : lent->memory + GUARD + turn / 2 % 8;
+    lent->size = size;
+    memset(lent->start - GUARD, GUARD_BYTE, GUARD);
+    memcpy(lent->start, bytes, size);
+    if (lent->start + size != lent->memory + MOST_LENT)
+        memset(lent->start + size, GUARD_BYTE, GUARD);
+    return lent->start;
+}
+
+static int guards_whole(const struct lent *lent)
+{
+    const uint8_t *end = lent->start + lent->size;
+    int whole = 1;
+    for (int at = 1; at <= GUARD; at++)
+        whole &= lent->start[-at] == GUARD_BYTE;
+    for (int at = 0; at < GUARD && end != lent->memory + MOST_LENT; at++)
+        whole &= end[at] == GUARD_BYTE;
+    return whole;
+}
+
+static void take_back(struct lent *lent)
+{
+    (void)lent;
+}
+
+#endif
+
+/* ---- numbers from the input's bytes ---- */
+
+static const uint8_t *input;
+static size_t input_left;
+
+static uint32_t next_byte(void)
+{
+    if (input_left == 0)
+        return 0;
+    input_left--;
+    return *input++;
+}
+
+static uint32_t next_number(int bytes)
+{
+    uint32_t number = 0;
+    while (bytes-- > 0)
+        number = number << 8 | next_byte();
+    return number;
+}
+
+static uint32_t edge(void)
+{
+    static const uint32_t EDGES[] = {
+        0,     1,     2,     3,      4,      8,      9,         11,        12,        13,
+        16,    17,    249,   250,    255,    256,    1000,      4999,      5000,      5001,
+        9999,  10000, 10001, 399999, 400000, 400001, 100000000, 199999999, 200000000, 200000001,
+        65535, 65536, 0x7fffffff, 0x80000000, 0xffffffff};
+    return EDGES[next_byte() % (sizeof EDGES / sizeof *EDGES)];
+}
+
+/* Mostly within the range, at times its ends, at times any edge. */
+static uint32_t number_within(uint32_t low, uint32_t high)
+{
+    uint32_t how = next_byte();
+    if (how < 160)
+        return low + next_number(high - low < 256 ? 1 : high - low < 65536 ? 2 : 4) %
+                         (high - low + 1);
+    if (how < 208)
+        return low;
+    if (how < 250)
+        return high;
+    return edge();
+}
+
+static uint64_t random_state;
+
+/* For lists too long to spell out byte by byte; the seed comes from the input. */
+static uint32_t random_below(uint32_t bound)
+{
+    random_state = random_state * 6364136223846793005u + 1442695040888963407u;
+    return (uint32_t)((random_state >> 33) % bound);
+}
+
+/* ---- the unit ---- */
+
+static uint8_t record[RECORD_BYTES]; /* as the calls left it: all engines hold the same */
+
+static uint64_t stored(size_t place)
+{
+    uint64_t value = 0;
+    for (int byte = 0; byte < 8; byte++)
+        value |= (uint64_t)record[8 * place + byte] << (8 * byte);
+    return value;
+}
+
+static void store(size_t place, uint64_t value)
+{
+    for (int byte = 0; byte < 8; byte++)
+        record[8 * place + byte] = (uint8_t)(value >> (8 * byte));
+}
+
+/* G and C of the record, or 1 where they are no such counts. */
+static uint32_t generators(void)
+{
+    uint64_t count = stored(AT_GENERATORS);
+    return 1 <= count && count <= MOST_GENERATORS ? (uint32_t)count : 1;
+}
+
+static uint32_t consumers(void)
+{
+    uint64_t count = stored(AT_CONSUMERS);
+    return 1 <= count && count <= MOST_CONSUMERS ? (uint32_t)count : 1;
+}
+
+/* ---- lists ---- */
+
+struct list {
+    uint32_t numbers[2 * MOST_PAIRS + 8];
+    uint8_t bytes[4 * (2 * MOST_PAIRS + 8)];
+    size_t size;
+};
+
+/* Some numbers of the list replaced, and its length altered at times. */
+static void finish_list(struct list *list, size_t count)
+{
+    for (uint32_t replaced = next_byte(); count > 0 && replaced >= 192; replaced = next_byte())
+        list->numbers[next_byte() % count] = replaced & 1 ? edge() : next_number(4);
+    for (size_t at = 0; at < sizeof list->numbers / sizeof *list->numbers; at++)
+        for (int byte = 0; byte < 4; byte++)
+            list->bytes[4 * at + byte] = (uint8_t)(list->numbers[at] >> (8 * byte));
+    list->size = 4 * count;
+}
+
+static size_t maybe_altered(size_t size)
+{
+    static const int CHANGES[] = {-8, -4, -3, -2, -1, 1, 2, 3, 4, 8};
+    uint32_t how = next_byte();
+    if (how < 240)
+        return size;
+    if (how < 244)
+        return 0;
+    int change = CHANGES[how % (sizeof CHANGES / sizeof *CHANGES)];
+    return change < 0 && size < (size_t)-change ? 0 : size + change;
+}
+
+/* ---- one call on every engine ---- */
+
+enum call { OPEN, SCHEDULE, BLOCK, CLOSE };
+
+static void call_all(enum call call, const uint32_t terms[5], struct list lists[2],
+                     size_t output_size)
+{
+    static struct lent lent_record[ENGINE_COUNT], lent_output[ENGINE_COUNT];
+    static struct lent lent_lists[ENGINE_COUNT][2];
+    static uint8_t long_record[MOST_LENT], pattern[MOST_LENT], answer[MOST_LENT];
+    size_t record_size = maybe_altered(RECORD_BYTES);
+    size_t sizes[2] = {maybe_altered(lists[0].size), maybe_altered(lists[1].size)};
+    int turn = (int)next_byte(), no_list = turn >= 128;
+    uint32_t number = 0;
+
+    for (size_t at = 0; at < sizeof pattern; at++)
+        pattern[at] = long_record[at] = (uint8_t)(0xa5 + 29 * at);
+    memcpy(long_record, record, RECORD_BYTES);
+    output_size = maybe_altered(output_size);
+
+    for (int e = 0; e < ENGINE_COUNT; e++) {
+        const struct engine *engine = &ENGINES[e];
+        uint8_t *in[2];
+        for (int l = 0; l < 2; l++) {
+            in[l] = lend(&lent_lists[e][l], lists[l].bytes, sizes[l], turn);
+            if (sizes[l] == 0 && no_list)
+                in[l] = NULL;
+        }
+        uint8_t *own = lend(&lent_record[e], long_record, record_size, turn);
+        uint8_t *out = lend(&lent_output[e], pattern, output_size, turn);
+        uint32_t result =
+            call == OPEN ? engine->open(terms[0], terms[1], terms[2], terms[3], terms[4], in[0],
+                                        sizes[0], in[1], sizes[1], own, record_size)
+            : call == SCHEDULE ? engine->schedule(own, record_size, in[0], sizes[0], in[1], sizes[1])
+            : call == BLOCK ? engine->block(own, record_size, in[0], sizes[0], in[1], sizes[1], out,
+                                            output_size)
+                            : engine->close(own, record_size, out, output_size);
+
+        if (e == 0) {
+            number = result;
+            memcpy(answer, out, output_size);
+        } else if (result != number) {
+            differs(engine->name, "the number");
+        } else if (memcmp(own, lent_record[0].start, record_size)) {
+            differs(engine->name, "the record");
+        } else if (memcmp(out, answer, output_size)) {
+            differs(engine->name, "the output");
+        }
+        for (int l = 0; l < 2; l++)
+            if (memcmp(lent_lists[e][l].start, lists[l].bytes, sizes[l]) ||
+                !guards_whole(&lent_lists[e][l]))
+                differs(engine->name, "an input was written");
+        if (!guards_whole(&lent_record[e]) || !guards_whole(&lent_output[e]))
+            differs(engine->name, "bytes around a buffer were written");
+    }
+    if (number >= sizeof calls_by_number / sizeof *calls_by_number)
+        differs("all", "no number of the display");
+    if (number != 0 && (memcmp(long_record, lent_record[0].start, record_size) ||
+                        memcmp(pattern, answer, output_size)))
+        differs("all", "a refused call wrote");
+    if (record_size == RECORD_BYTES)
+        memcpy(record, lent_record[0].start, RECORD_BYTES);
+    calls_made++;
+    calls_by_number[number]++;
+    for (int e = 0; e < ENGINE_COUNT; e++) {
+        take_back(&lent_record[e]);
+        take_back(&lent_output[e]);
+        take_back(&lent_lists[e][0]);
+        take_back(&lent_lists[e][1]);
+    }
+}
+
+/* ---- the calls ---- */
+
+static struct list lists[2];
+static const uint32_t NO_TERMS[5];
+
+static void open_unit(void)
+{
+    uint32_t G = number_within(1, MOST_GENERATORS), C = number_within(1, MOST_CONSUMERS);
+    uint32_t cycle = number_within(1, 12);
+    uint32_t terms[5] = {G, C, number_within(0, 5000), cycle,
+                         number_within(0, cycle ? cycle - 1 : 0)};
+    uint32_t rows = G <= MOST_GENERATORS ? G : 1, columns = C <= MOST_CONSUMERS ? C : 1;
+    uint32_t most_loss = number_within(0, 5000) % 5001;
+    random_state = next_number(2);
+    for (uint32_t g = 0; g < rows; g++) {
+        lists[0].numbers[3 * g] = next_byte() % 4;
+        lists[0].numbers[3 * g + 1] = number_within(0, 400000);
+        lists[0].numbers[3 * g + 2] = number_within(0, 400000);
+    }
+    for (uint32_t pair = 0; pair < rows * columns; pair++) {
+        lists[1].numbers[pair] = random_below(8) != 0;
+        lists[1].numbers[rows * columns + pair] = random_below(most_loss + 1);
+    }
+    finish_list(&lists[0], 3 * rows);
+    finish_list(&lists[1], 2 * rows * columns);
+    call_all(OPEN, terms, lists, 0);
+}
+
+static void schedule(void)
+{
+    uint32_t G = generators(), C = consumers(), most_rank = 1 + next_byte() % 255;
+    random_state = next_number(2);
+    for (uint32_t g = 0; g < G; g++) {
+        uint64_t installed = stored(AT_AGREED + 3 * g + 1);
+        uint64_t contracted = stored(AT_AGREED + 3 * g + 2);
+        uint64_t left = installed < contracted ? installed : contracted;
+        left = left > 400000 ? 400000 : left;
+        for (uint32_t c = 0; c < C; c++) {
+            uint32_t kw = 0;
+            if (stored(AT_LINKS + MOST_CONSUMERS * g + c) == 1 && random_below(4) != 0)
+                kw = c + 1 == C ? (uint32_t)left : random_below((uint32_t)(2 * left / C + 1));
+            kw = kw < left ? kw : (uint32_t)left;
+            left -= kw;
+            lists[0].numbers[g * C + c] = kw;
+            lists[1].numbers[g * C + c] = 1 + random_below(most_rank);
+        }
+    }
+    finish_list(&lists[0], G * C);
+    finish_list(&lists[1], G * C);
+    call_all(SCHEDULE, NO_TERMS, lists, 0);
+}
+
+static void blocks(uint32_t count)
+{
+    uint32_t most_entry = number_within(0, 200000000), most_exit = number_within(0, 200000000);
+    random_state = next_number(2);
+    while (count-- > 0) {
+        uint32_t G = generators(), C = consumers();
+        for (uint32_t g = 0; g < G; g++)
+            lists[0].numbers[g] = most_entry == UINT32_MAX ? most_entry : random_below(most_entry + 1);
+        for (uint32_t c = 0; c < C; c++)
+            lists[1].numbers[c] = most_exit == UINT32_MAX ? most_exit : random_below(most_exit + 1);
+        finish_list(&lists[0], G);
+        finish_list(&lists[1], C);
+        call_all(BLOCK, NO_TERMS, lists, 8 * (4 * G * C + G + C));
+    }
+}
+
+static void close_month(void)
+{
+    uint32_t G = generators(), C = consumers();
+    lists[0].size = lists[1].size = 0;
+    call_all(CLOSE, NO_TERMS, lists, 8 * (G * C + 3 * G + 2 * C));
+}
+
+/* ---- what a host may do to the record between calls ---- */
+
+static void damage(void)
+{
+    uint32_t how = next_byte();
+    size_t place = how & 1 ? next_byte() % 7 : next_number(2) % RECORD_NUMBERS;
+    uint64_t was = stored(place);
+    switch (how / 2 % 6) {
+    case 0: store(place, was + 1); break;
+    case 1: store(place, was - 1); break;
+    case 2: store(place, was ^ (uint64_t)1 << next_byte() % 64); break;
+    case 3: store(place, edge()); break;
+    case 4: store(place, was + ((uint64_t)1 << 32)); break;
+    default: store(place, (uint64_t)next_number(4) << 32 | next_number(4)); break;
+    }
+}
+
+/* An older unit: the record stays sound if it was. */
+static void age(void)
+{
+    uint64_t month = next_byte() & 1 ? 3360 - next_byte() % 4 : next_byte() % 4;
+    store(AT_UNIT_BLOCKS, 10000000 - next_byte() % 4);
+    store(AT_MONTH_BLOCKS, month);
+}
+
+/* As much energy more in the whole and in one term of an equation. */
+static void add_balanced(void)
+{
+    int by_generator = next_byte() & 1;
+    size_t places = by_generator ? MOST_GENERATORS : MOST_CONSUMERS;
+    size_t whole = by_generator ? AT_INJECTED : AT_METERED;
+    size_t place = next_byte() % places, term = 1 + next_byte() % (by_generator ? 9 : 5);
+    uint64_t more = (uint64_t)number_within(0, 2000000000) * (next_byte() & 1 ? 1 : 1000000);
+    store(whole + place, stored(whole + place) + more);
+    store(whole + term * places + place, stored(whole + term * places + place) + more);
+}
+
+static void run_list(const uint8_t *bytes, size_t size)
+{
+    input = bytes;
+    input_left = size;
+    memset(record, 0, sizeof record);
+    memset(lists, 0, sizeof lists);
+    uint64_t end = calls_made + MOST_CALLS;
+    open_unit();
+    while (input_left > 0 && calls_made < end) {
+        uint32_t action = next_byte();
+        switch (action % 16) {
+        case 0: open_unit(); break;
+        case 1: case 2: case 3: schedule(); break;
+        case 4: case 5: case 6: blocks(1); break;
+        case 7: blocks(action); break;
+        case 8: case 9: case 10: close_month(); break;
+        case 11: damage(); break;
+        case 12: damage(); damage(); break;
+        case 13: age(); break;
+        default: add_balanced(); break;
+        }
+    }
+}
+
+static void report(void)
+{
+    fprintf(stderr, "%llu calls by number:", (unsigned long long)calls_made);
+    for (size_t number = 0; number < sizeof calls_by_number / sizeof *calls_by_number; number++)
+        fprintf(stderr, " %zu: %llu", number, (unsigned long long)calls_by_number[number]);
+    fprintf(stderr, "\n");
+}
+
+#ifdef WITHOUT_FUZZER
+
+int main(int count, char **names)
+{
+    static uint8_t bytes[1 << 16];
+    for (int at = 1; at < count; at++) {
+        FILE *file = fopen(names[at], "rb");
+        if (file == NULL) {
+            fprintf(stderr, "cannot read %s\n", names[at]);
+            return 1;
+        }
+        size_t size = fread(bytes, 1, sizeof bytes, file);
+        fclose(file);
+        run_list(bytes, size);
+    }
+    fprintf(stderr, "%d lists, ", count - 1);
+    report();
+    return 0;
+}
+
+#else
+
+int LLVMFuzzerInitialize(int *count, char ***words)
+{
+    (void)count, (void)words;
+    atexit(report);
+    return 0;
+}
+
+int LLVMFuzzerTestOneInput(const uint8_t *bytes, size_t size)
+{
+    run_list(bytes, size);
+    return 0;
+}
+
+#endif

@@ -1,0 +1,195 @@
+#!/usr/bin/env python3
+"""Compiles the library's source without its proofs, with the kit's own back end and flags.
+
+    unproved.py OBJECT.o [--crates FOLDER] [--prefix NAME] [--flag=FLAG]...
+
+For tests of the tests only: nothing made here is proved and nothing made here is delivered. The
+faults of faults.py are compiled by it from a changed copy of crates/, and the fuzzer's guide from
+the source as it stands, with the compiler's coverage flags added. --prefix puts NAME before the
+names of the C calls, so that the object can be linked beside the proved library.
+
+The kit compiles only a proved library, but it runs a program unproved (`rt try`). So the library's
+root becomes a program that does nothing, the compiler that the kit then calls is a script that
+keeps the LLVM module of the -O3 build, and the calls, which a program keeps to itself, are made
+visible in that module. A slice is passed as a pointer to its address and length; C wrappers made
+from the calls' own signatures turn pointer and length into that, as in the static library.
+"""
+
+import argparse
+import os
+import platform
+import re
+import shutil
+import subprocess
+import sys
+import tempfile
+from pathlib import Path
+
+HERE = Path(__file__).resolve().parent
+REPOSITORY = HERE.parent
+
+# The crate with the C calls, and C files that its calls need to become the four on bytes.
+LIBRARIES = (("wheeling", ()), ("host", (HERE / "byte_calls.c",)))
+CALLS = ("wheeling_open", "wheeling_schedule", "wheeling_block", "wheeling_close")
+
+EXPORTED = re.compile(r'pub extern "C" fn (\w+)\(([^)]*)\) -> u32')
+NUMBER_TYPES = {"u8": "uint8_t", "u32": "uint32_t", "u64": "uint64_t"}
+
+KEEPING_CLANG = """#!/bin/sh
+case " $* " in *" -O3 "*)
+    cp module.bc "{keep}/module.bc" && printf '%s\\n' "$@" >"{keep}/flags" || exit 1 ;;
+esac
+exec "{clang}" "$@"
+"""
+
+
+class NotCompiled(Exception):
+    pass
+
+
+def run(*words, **more):
+    done = subprocess.run([str(word) for word in words], capture_output=True, text=True, **more)
+    if done.returncode != 0:
+        raise NotCompiled(f"{words[0]}: " + (done.stderr or done.stdout).strip()[:2000])
+
+
+class Kit:
+    def __init__(self):
+        home = os.environ.get("RATTLE_HOME")
+        if home is None:
+            rt = shutil.which("rt")
+            if rt is None:
+                raise NotCompiled("the Rattle kit's command rt is not on the path")
+            home = Path(rt).resolve().parent.parent
+        own = Path(home) / "on" / platform.machine()
+        self.toolchain = own / "toolchain"
+        self.clang = self.toolchain / "bin" / "clang"
+        self.run_unproved = own / "bin" / "rattle-cases"
+        self.std = Path(home) / "libs" / "std" / "src" / "lib.rt"
+
+    def keeping_toolchain(self, folder, keep):
+        """The kit's toolchain with a compiler that keeps what it is given."""
+        (folder / "bin").mkdir(parents=True)
+        (folder / "lib").symlink_to(self.toolchain / "lib")
+        for name in ("ld.lld", "llvm-ar"):
+            (folder / "bin" / name).symlink_to(self.toolchain / "bin" / name)
+        script = folder / "bin" / "clang"
+        script.write_text(KEEPING_CLANG.format(keep=keep, clang=self.clang))
+        script.chmod(0o755)
+
+
+def library_of(crates):
+    for name, bridges in LIBRARIES:
+        if (crates / name).is_dir():
+            return name, bridges
+    raise NotCompiled(f"{crates} has no crate with the C calls")
+
+
+def reached_by(name):
+    """All crates that a crate depends on, by crates.txt."""
+    depends = {}
+    for line in (REPOSITORY / "crates.txt").read_text().splitlines():
+        crate, colon, used = line.split("#")[0].partition(":")
+        if colon:
+            depends[crate.strip()] = used.split()
+    reached, to_do = set(), [name]
+    while to_do:
+        for crate in depends[to_do.pop()]:
+            if crate not in reached:
+                reached.add(crate)
+                to_do.append(crate)
+    return sorted(reached)
+
+
+def wrappers(source, prefix):
+    """C functions with the names and parameters that the static library gives its calls."""
+    lines = ["#include <stddef.h>", "#include <stdint.h>",
+             "struct slice { const void *start; size_t length; };"]
+    for name, parameters in EXPORTED.findall(source):
+        inner, outer, arguments = [], [], []
+        for parameter in parameters.split(","):
+            if not parameter.strip():
+                continue
+            what, kind = (part.strip() for part in parameter.split(":"))
+            slice_of = re.fullmatch(r"&(mut )?\[(\w+)\]", kind)
+            if slice_of:
+                const = "" if slice_of[1] else "const "
+                inner.append("const struct slice *")
+                outer.append(f"{const}{NUMBER_TYPES[slice_of[2]]} *{what}, size_t {what}_length")
+                arguments.append(f"&(struct slice){{{what}, {what}_length}}")
+            else:
+                inner.append(NUMBER_TYPES[kind])
+                outer.append(f"{NUMBER_TYPES[kind]} {what}")
+                arguments.append(what)
+        lines += [f'uint32_t {prefix}inner_{name}({", ".join(inner)});',
+                  f'uint32_t {prefix}{name}({", ".join(outer)})',
+                  f'{{ return {prefix}inner_{name}({", ".join(arguments)}); }}']
+    return "\n".join(lines) + "\n"
+
+
+def visible(module, library, names, prefix):
+    """The module's text with the calls visible, for the wrappers, and its `main` not."""
+    for name in names:
+        hidden, shown = f'@"{library}::{name}"(', f"@{prefix}inner_{name}("
+        if module.count("define internal noundef i32 " + hidden) != 1:
+            raise NotCompiled(f"the module does not hold {library}::{name}")
+        module = module.replace("define internal noundef i32 " + hidden,
+                                "define noundef i32 " + shown).replace(hidden, shown)
+    return module.replace("define i32 @main(", "define internal i32 @main(")
+
+
+def compile_unproved(target, crates=REPOSITORY / "crates", prefix="", flags=()):
+    """Writes one object file with the four C calls of the source under `crates`."""
+    kit = Kit()
+    library, bridges = library_of(crates)
+    with tempfile.TemporaryDirectory() as name:
+        work = Path(name)
+        kit.keeping_toolchain(work / "toolchain", work)
+        shutil.copytree(crates / library / "src", work / "src")
+        source = (work / "src" / "lib.rt").read_text()
+        (work / "src" / "lib.rt").unlink()
+        (work / "src" / "main.rt").write_text(source + "\nfn main() {}\n")
+        words = ["--lib", f"std={kit.std}"]
+        for crate in reached_by(library):
+            words += ["--lib", f"{crate}={crates / crate / 'src' / 'lib.rt'}"]
+        run(kit.run_unproved, "--toolchain", work / "toolchain", work / "src" / "main.rt",
+            "--crate-name", library, *words, cwd=work)
+
+        run(kit.clang, "-x", "ir", work / "module.bc", "-S", "-emit-llvm", "-O1",
+            "-Xclang", "-disable-llvm-passes", "-o", work / "module.ll")
+        names = [name for name, _ in EXPORTED.findall(source)]
+        (work / "visible.ll").write_text(
+            visible((work / "module.ll").read_text(), library, names, prefix))
+        own_flags = (work / "flags").read_text().split("\n")[:-1]
+        given = own_flags[:own_flags.index("-x")] + own_flags[own_flags.index("module.o") + 1:]
+        run(kit.clang, *given, "-fPIC", *flags, "-c", "-x", "ir", work / "visible.ll",
+            "-o", work / "module.o")
+
+        (work / "wrappers.c").write_text(wrappers(source, prefix))
+        renamed = [f"-D{name}={prefix}{name}" for name in (*names, *CALLS)]
+        objects = [work / "module.o"]
+        for c_file in (work / "wrappers.c", *bridges):
+            objects.append(work / (c_file.stem + ".o"))
+            run("gcc", "-std=c99", "-Wall", "-Wextra", "-Werror", "-O1", "-fPIC",
+                *(renamed if c_file in bridges else []), "-c", c_file, "-o", objects[-1])
+        run("gcc", "-r", "-nostdlib", "-o", target, *objects)
+
+
+def main():
+    parser = argparse.ArgumentParser(description=__doc__.splitlines()[0])
+    parser.add_argument("object")
+    parser.add_argument("--crates", type=Path, default=REPOSITORY / "crates")
+    parser.add_argument("--prefix", default="")
+    parser.add_argument("--flag", action="append", default=[], help="for the kit's compiler")
+    arguments = parser.parse_args()
+    try:
+        compile_unproved(arguments.object, arguments.crates.resolve(), arguments.prefix,
+                         arguments.flag)
+    except NotCompiled as fault:
+        print(f"not compiled: {fault}")
+        return 1
+    return 0
+
+
+if __name__ == "__main__":
+    sys.exit(main())
