@@ -36,7 +36,8 @@ FAULTS = {
     "opening: losses read from the links":
         ("agreement/src/lib.rt", "spread(list, n * m, n, m)", "spread(list, 0, n, m)"),
     "opening: longer pair list allowed":
-        ("agreement/src/lib.rt", "pair_list.len() == 2 * (n * m)", "2 * (n * m) <= pair_list.len()"),
+        ("agreement/src/lib.rt", "pair_list.len() == 2 * (n * m)",
+         "2 * (n * m) <= pair_list.len()"),
     "opening: 16 consumers refused":
         ("agreement/src/lib.rt", "(m <= 16)", "(m <= 15)"),
     # schedule
@@ -44,7 +45,8 @@ FAULTS = {
         ("agreement/src/lib.rt", "refusal(7, unlinked, refusal(8, over,",
          "refusal(8, over, refusal(7, unlinked,"),
     "schedule: rank 0 allowed":
-        ("agreement/src/lib.rt", "any_outside(ranks, 0, count, 1,", "any_outside(ranks, 0, count, 0,"),
+        ("agreement/src/lib.rt", "any_outside(ranks, 0, count, 1,",
+         "any_outside(ranks, 0, count, 0,"),
     "schedule: kW on unlinked pairs allowed":
         ("agreement/src/lib.rt", "(0 < kws[from + c])", "(400_000 < kws[from + c])"),
     "schedule: kW stored as ranks":
@@ -104,11 +106,13 @@ FAULTS = {
     "sound: full month refused":
         ("record/src/lib.rt", "(n.month <= MOST_MONTH_BLOCKS)", "(n.month < MOST_MONTH_BLOCKS)"),
     "sound: full unit refused":
-        ("record/src/lib.rt", "MOST_UNIT_BLOCKS: u64 = 10_000_000", "MOST_UNIT_BLOCKS: u64 = 9_999_999"),
+        ("record/src/lib.rt", "MOST_UNIT_BLOCKS: u64 = 10_000_000",
+         "MOST_UNIT_BLOCKS: u64 = 9_999_999"),
     "sound: totals by age one low":
         ("record/src/lib.rt", "MOST_READING: u64 = 200_000_000", "MOST_READING: u64 = 199_999_999"),
     "sound: totals by age one high":
-        ("record/src/lib.rt", "limit_at(inside, MOST_READING * blocks);\n    let split = capped(x.unaccounted)",
+        ("record/src/lib.rt",
+         "limit_at(inside, MOST_READING * blocks);\n    let split = capped(x.unaccounted)",
          "limit_at(inside, MOST_READING * blocks + 1);\n    let split = capped(x.unaccounted)"),
     "sound: kW on an unlinked pair allowed":
         ("record/src/lib.rt", "((link == 1) | (kw == 0))", "((link <= 1) | (kw == 0))"),
@@ -117,7 +121,8 @@ FAULTS = {
     "sound: supplied counted for open":
         ("record/src/lib.rt", "+ capped(x.outstanding)", "+ capped(x.supplied)"),
     "sound: totals beyond G allowed":
-        ("record/src/lib.rt", "generator_sound(blocks, g < n, x)", "generator_sound(blocks, g < 8, x)"),
+        ("record/src/lib.rt", "generator_sound(blocks, g < n, x)",
+         "generator_sound(blocks, g < 8, x)"),
     "sound: ranges of pairs beyond C as within":
         ("record/src/lib.rt", "(g < n) & (c < m)", "(g < n) & (c < 16)"),
     # bytes
@@ -145,7 +150,8 @@ EQUIVALENT = {
         "the share step tests K once more, but a block has refused such readings with 10",
 }
 
-FOUND = re.compile(r"^DIFFERENCE in (.*), call \d+ of it \((\w+)\), (\d+) calls after the start", re.M)
+FOUND = re.compile(r"^DIFFERENCE in (.*), call \d+ of it \((\w+)\), (\d+) calls after the start",
+                   re.MULTILINE)
 
 
 def edited(text, pairs, where):
@@ -193,7 +199,7 @@ def compared(folder, files):
     return done.returncode, done.stdout + done.stderr
 
 
-def tried(name, files):
+def tried(files):
     """One word for the summary, and the line to print."""
     begun = time.monotonic()
     with tempfile.TemporaryDirectory() as folder:
@@ -220,8 +226,9 @@ def main():
     for name, files in [("the source as it stands", {}), *faults]:
         if files and words and not any(word in name for word in words):
             continue
-        stage, line = tried(name, files)
-        print(f"{name}: {line}" + (f"; {EQUIVALENT[name]}" if name in EQUIVALENT else ""), flush=True)
+        stage, line = tried(files)
+        why = f": {EQUIVALENT[name]}" if name in EQUIVALENT else ""
+        print(f"{name}: {line}{why}", flush=True)
         if stage == "failed" or (stage == "none") != (not files or name in EQUIVALENT):
             wrong.append(name)
         elif files:

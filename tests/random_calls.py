@@ -72,7 +72,8 @@ def schedule_for(rng, unit):
     G, C = unit.generators, unit.consumers
     kw = []
     for g in range(G):
-        left = min(unit.installed[g], unit.contracted[g])
+        # A damaged record may hold more than an input does.
+        left = min(unit.installed[g], unit.contracted[g], Engine.HIGHEST_CAPACITY)
         if rng.random() < 0.7:
             left = magnitude(rng, left)
         row = [0] * C
