@@ -440,16 +440,23 @@ static void age(void)
     store(AT_MONTH_BLOCKS, month);
 }
 
-/* As much energy more in the whole and in one term of an equation. */
+/* As much energy more in the whole and in one term of an equation: some, much, all that a unit of
+ * this age may have, or 1 Wh over that. */
 static void add_balanced(void)
 {
     int by_generator = next_byte() & 1;
     size_t places = by_generator ? MOST_GENERATORS : MOST_CONSUMERS;
-    size_t whole = by_generator ? AT_INJECTED : AT_METERED;
-    size_t place = next_byte() % places, term = 1 + next_byte() % (by_generator ? 9 : 5);
-    uint64_t more = (uint64_t)number_within(0, 2000000000) * (next_byte() & 1 ? 1 : 1000000);
-    store(whole + place, stored(whole + place) + more);
-    store(whole + term * places + place, stored(whole + term * places + place) + more);
+    size_t whole = (by_generator ? AT_INJECTED : AT_METERED) + next_byte() % places;
+    size_t term = whole + places * (1 + next_byte() % (by_generator ? 9 : 5));
+    uint64_t to_age = 200000000 * stored(AT_UNIT_BLOCKS) - stored(whole), more;
+    switch (next_byte() % 4) {
+    case 0: more = number_within(0, 2000000000); break;
+    case 1: more = (uint64_t)number_within(0, 2000000000) * 1000000; break;
+    case 2: more = to_age; break;
+    default: more = to_age + 1; break;
+    }
+    store(whole, stored(whole) + more);
+    store(term, stored(term) + more);
 }
 
 static void run_list(const uint8_t *bytes, size_t size)
