@@ -21,6 +21,7 @@ import sys
 import time
 import traceback
 from collections import Counter
+from itertools import islice
 
 from fixed_cases import fixed_cases
 from library import Library, Pair
@@ -127,7 +128,7 @@ def run_or_tell(path, arguments, position, answer):
 def calls_made(kind, index, seed, last):
     """The calls of one list up to the one that differed, made again by the second engine."""
     if kind == "fixed case":
-        name, calls = list(fixed_cases())[index]
+        name, calls = next(islice(fixed_cases(), index, None))
         return name, calls[:last + 1]
     unit, calls = SecondUnit(Engine()), []
     made = calls_of(seed, kind, index)
