@@ -8,21 +8,29 @@ ghost use Rattle.lists.specs.Choice.{if_then_else_};
 ghost use Rattle.lists.specs.Tests.{some};
 ghost use Rattle.energy.specs.Limits.{mostReading};
 ghost use Rattle.record.specs.Called.{numberOn};
+ghost use Rattle.record.specs.Stored.{recordFrom};
 ghost use Rattle.block.specs.Block.{blockRule, Blocked};
 ghost use Rattle.block.specs.Refusals.{overLimit, ownRefusal};
 ghost use Rattle.block.specs.Readings.{readingAt};
-ghost use Rattle.block.specs.Totals.{byKind, zeros8, generatorsAfter, consumersAfter, GeneratorsRoom, ConsumersRoom, recordAfterBlock, RecordRoom};
-ghost use Rattle.block.specs.Output.{OutputRoom, sixLists, listsWritten};
-ghost use Rattle.block.specs.Accepted.{planIn, Entered};
-ghost use Rattle.settlement.specs.Arrays.{listsOf, Settleable};
+ghost use Rattle.block.specs.Totals.{byKind, zeros8, generatorsAfter, consumersAfter, GeneratorsRoom, ConsumersRoom};
+ghost use Rattle.block.specs.Output.{OutputRoom, sixLists};
+ghost use Rattle.block.specs.Accepted.{PairLists, Entered};
 ghost use Rattle.lists.specs.Pairs.{place};
 ghost use Rattle.lists.specs.Tables.{table};
+use record::Agreed;
 use record::Answer;
 use record::Consumers;
 use record::Counts;
 use record::Generators;
 use record::Record;
-use settlement::Lists;
+use record::Terms;
+
+// What a block changes of a record.
+pub struct Totals {
+    pub counts: Counts,
+    pub generators: Generators,
+    pub consumers: Consumers,
+}
 
 // Whether a reading is over the limit.
 fn any_over(readings: &[u32]) -> bool
@@ -53,12 +61,34 @@ fn own_refusal(n: usize, m: usize, counts: Counts, entry: &[u32], exit: &[u32], 
     }
 }
 
-fn refusal(r: Record, entry: &[u32], exit: &[u32], size: usize) -> u32
-    ensures { λ x. ⌜ x ≡ numberOn (blockRule (now (entry .entry)) (now (exit .entry)) size) r ⌝ }
+// The number of a block on a record that is given by its parts; the pair lists are lent where they lie.
+pub fn refusal_on<'a>(
+    terms: Terms,
+    counts: Counts,
+    agreed: Agreed,
+    link: &'a [u64; 128],
+    loss: &'a [u64; 128],
+    kw: &'a [u64; 128],
+    rank: &'a [u64; 128],
+    generators: Generators,
+    consumers: Consumers,
+    entry: &[u32],
+    exit: &[u32],
+    size: usize,
+) -> u32
+    ensures { λ x. ⌜ x ≡ numberOn (blockRule (now (entry .entry)) (now (exit .entry)) size) (recordFrom terms counts agreed (now (link .entry)) (now (loss .entry)) (now (kw .entry)) (now (rank .entry)) generators consumers) ⌝ }
 {
-    if record::is_sound(r) {
-        let terms = r.terms;
-        let counts = r.counts;
+    if record::parts_sound(
+        terms,
+        counts,
+        agreed,
+        link,
+        loss,
+        kw,
+        rank,
+        generators,
+        consumers,
+    ) {
         let n = terms.generators as usize;
         let m = terms.consumers as usize;
         own_refusal(n, m, counts, entry, exit, size)
@@ -203,46 +233,6 @@ fn consumers_after<'a>(
     }
 }
 
-// Rule 8 on the whole record.
-fn after_block(r: Record, entry: [u32; 8], exit: [u32; 16], x: Lists) -> Record
-    requires { ⌜ RecordRoom r entry exit x ⌝ }
-    ensures { λ a. ⌜ a ≡ recordAfterBlock r entry exit x ⌝ }
-{
-    let terms = r.terms;
-    let counted = r.counts;
-    let agreed = r.agreed;
-    let kind = agreed.kind;
-    let before = r.generators;
-    let owed = r.consumers;
-    let unaccounted = x.unaccounted;
-    let remainder = x.remainder;
-    let m = terms.consumers as usize;
-    let n = terms.generators as usize;
-    let injected = wide8(entry);
-    let metered = wide16(exit);
-    let counts = Counts {
-        gone: counted.gone,
-        blocks: counted.blocks + 1,
-        month: counted.month + 1,
-    };
-    let generators = generators_after(
-        before,
-        kind,
-        injected,
-        unaccounted,
-        &x.loss,
-        &x.setoff,
-        &x.underdrawn,
-        m,
-    );
-    let consumers = consumers_after(owed, metered, &x.setoff, &x.shortfall, remainder, n);
-    let mut after = r;
-    after.counts = counts;
-    after.generators = generators;
-    after.consumers = consumers;
-    after
-}
-
 // The block's output: each list into its own stretch of the slice.
 fn write_lists<'a>(
     out: &mut [u64],
@@ -272,27 +262,29 @@ fn write_lists<'a>(
 }
 
 // Rules 1 to 8, and the output. The arrays are lent where they lie: no list is copied on the way.
-fn accepted(r: Record, entry: &[u32], exit: &[u32], out: &mut [u64]) -> Record
-    requires { ⌜ numberOn (blockRule (now entry) (now exit) (length (now out))) r ≡ 0 ⌝ }
-    ensures { λ a. ⌜ Entered r (now (entry .entry)) (now (exit .entry)) a (now (out .exit)) ⌝ }
+pub fn enter<'a>(
+    terms: Terms,
+    counts: Counts,
+    agreed: Agreed,
+    link: &'a [u64; 128],
+    loss: &'a [u64; 128],
+    kw: &'a [u64; 128],
+    rank: &'a [u64; 128],
+    generators: Generators,
+    consumers: Consumers,
+    entry: &[u32],
+    exit: &[u32],
+    out: &mut [u64],
+) -> Totals
+    requires { ⌜ PairLists (now link) (now loss) (now kw) (now rank) × (numberOn (blockRule (now entry) (now exit) (length (now out))) (recordFrom terms counts agreed (now link) (now loss) (now kw) (now rank) generators consumers) ≡ 0) ⌝ }
+    ensures { λ t. ⌜ Entered (recordFrom terms counts agreed (now (link .entry)) (now (loss .entry)) (now (kw .entry)) (now (rank .entry)) generators consumers) (now (entry .entry)) (now (exit .entry)) (recordFrom terms (t .counts) agreed (now (link .entry)) (now (loss .entry)) (now (kw .entry)) (now (rank .entry)) (t .generators) (t .consumers)) (now (out .exit)) ⌝ }
 {
-    let terms = r.terms;
-    let agreed = r.agreed;
     let kind = agreed.kind;
     let n = terms.generators as usize;
     let m = terms.consumers as usize;
-    let injected = eight(entry);
-    let metered = sixteen(exit);
-    let x = settlement::settle_block(
-        n,
-        m,
-        kind,
-        &r.schedule.kw,
-        &r.links.loss,
-        &r.schedule.rank,
-        injected,
-        metered,
-    );
+    let entered = eight(entry);
+    let left = sixteen(exit);
+    let x = settlement::settle_block(n, m, kind, kw, loss, rank, entered, left);
     let unaccounted = x.unaccounted;
     let remainder = x.remainder;
     write_lists(
@@ -306,16 +298,76 @@ fn accepted(r: Record, entry: &[u32], exit: &[u32], out: &mut [u64]) -> Record
         n,
         m,
     );
-    after_block(r, injected, metered, x)
+    let raised = Counts {
+        gone: counts.gone,
+        blocks: counts.blocks + 1,
+        month: counts.month + 1,
+    };
+    let injected = wide8(entered);
+    let given = generators_after(
+        generators,
+        kind,
+        injected,
+        unaccounted,
+        &x.loss,
+        &x.setoff,
+        &x.underdrawn,
+        m,
+    );
+    let metered = wide16(left);
+    let taken = consumers_after(consumers, metered, &x.setoff, &x.shortfall, remainder, n);
+    Totals {
+        counts: raised,
+        generators: given,
+        consumers: taken,
+    }
 }
 
 // One block: an entry reading a generator, an exit reading a consumer, and the slice for its lists.
 pub fn block(r: Record, entry: &[u32], exit: &[u32], out: &mut [u64]) -> Answer
     ensures { λ a. ⌜ Blocked r (now (entry .entry)) (now (exit .entry)) (now (out .entry)) a (now (out .exit)) ⌝ }
 {
-    let number = refusal(r, entry, exit, out.len());
+    let terms = r.terms;
+    let counts = r.counts;
+    let agreed = r.agreed;
+    let generators = r.generators;
+    let consumers = r.consumers;
+    let number = refusal_on(
+        terms,
+        counts,
+        agreed,
+        &r.links.link,
+        &r.links.loss,
+        &r.schedule.kw,
+        &r.schedule.rank,
+        generators,
+        consumers,
+        entry,
+        exit,
+        out.len(),
+    );
     if number == 0 {
-        let after = accepted(r, entry, exit, out);
+        let t = enter(
+            terms,
+            counts,
+            agreed,
+            &r.links.link,
+            &r.links.loss,
+            &r.schedule.kw,
+            &r.schedule.rank,
+            generators,
+            consumers,
+            entry,
+            exit,
+            out,
+        );
+        let raised = t.counts;
+        let given = t.generators;
+        let taken = t.consumers;
+        let mut after = r;
+        after.counts = raised;
+        after.generators = given;
+        after.consumers = taken;
         Answer { number: 0, after }
     } else {
         Answer { number, after: r }
