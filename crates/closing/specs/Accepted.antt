@@ -41,7 +41,7 @@ module _ (r : Record) (size : ℕ) (z : numberOn (closingRule size) r ≡ 0) whe
   unfolding figures planOf closingLength closingRule
   output-size = accepted-size (figures r) size (sym (number-sound (closingRule size) r (accepted-sound (closingRule size) r z)) ∙ z)
 
-  pub closable : Closable r
+  pub closable : Closable (r .terms) (r .counts) (r .generators .bank) (r .generators .pending) (r .consumers .outstanding)
   unfolding figures planOf generatorAt consumerAt noConsumption
   closable =
       record {
@@ -63,8 +63,6 @@ module _ (r : Record) (size : ℕ) (z : numberOn (closingRule size) r ≡ 0) whe
     pub record-room : RecordRoom r x
     record-room =
         record {
-          generators-few = generators-few;
-          consumers-few = consumers-few;
           gone-few = gone-few;
           generators-room = rw by-figures (generators-room r facts);
           consumers-room = rw by-figures (consumers-room r facts);

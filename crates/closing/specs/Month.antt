@@ -2,6 +2,7 @@
 use Prim.Native.Nat.{ℕ, zero, suc, _+_, _≤_, _<_}
 use mathlib.Core.Path.{_≡_, refl, ap, ap₂, _∙_}
 use mathlib.Core.Bool.{Bool}
+use mathlib.Core.List.{List}
 use native.Mathlib.Omega.{arith}
 use lib.Dec.{eqb}
 use Rattle.lists.specs.Choice.{if_then_else_}
@@ -13,6 +14,8 @@ use Rattle.order.specs.Settle.{given, kept, unmet}
 use Rattle.delivery.specs.Plan.{Plan, order, suppliers}
 use Rattle.record.specs.Book.{Book}
 use Rattle.record.specs.Stored.{generatorAt, consumerAt, planOf, figures}
+use Rattle.record.specs.declared.Terms.{Terms}
+use Rattle.record.specs.declared.Counts.{Counts}
 use Rattle.record.specs.declared.Record.{Record}
 use Rattle.bank.specs.Drawing.{stockAt, drawnAt, missingAt}
 use Rattle.bank.specs.Closing.{takenUp, charge, credited, banks, drawn, supplied, lapses, bankBeforeLapse, lapsed, bankAfter}
@@ -25,34 +28,34 @@ use Rattle.bank.specs.declared.Lapse.{Lapse}
 use Rattle.closing.specs.declared.Month.{Month}
 
 -- as the code has them
-unfoldable pub monthIn : Record → Month
-monthIn r =
-    let credit = creditOf (record { balance = r .generators .bank }) (r .generators .pending) (r .terms .rate) in
-    let drawing =
-    drawingOf (linkPlan (r .terms .generators) (r .terms .consumers) (r .schedule .rank) (r .links .link)) (credit .bank) (r .consumers .outstanding) in
-    let lapse = lapseOf (drawing .bank) (eqb (r .counts .gone + 1) (r .terms .cycle)) in
+unfoldable pub monthFrom : Terms → Counts → (link rank held pending outstanding : List ℕ) → Month
+monthFrom t n link rank held pending outstanding =
+    let credit = creditOf (record { balance = held }) pending (t .rate) in
+    let drawing = drawingOf (linkPlan (t .generators) (t .consumers) rank link) (credit .bank) outstanding in
+    let lapse = lapseOf (drawing .bank) (eqb (n .gone + 1) (t .cycle)) in
     record { charge = credit .charge; drawn = drawing .drawn; supplied = drawing .supplied; lapsed = lapse .lapsed; balance = lapse .bank .balance }
 
+abbrev pub monthIn : Record → Month
+monthIn r = monthFrom (r .terms) (r .counts) (r .links .link) (r .schedule .rank) (r .generators .bank) (r .generators .pending) (r .consumers .outstanding)
+
 -- step by step
-pub steps-are : (r : Record) {k : Credit} {d : Drawing} {ends : Bool} {l : Lapse} →
-    k ≡ creditOf (record { balance = r .generators .bank }) (r .generators .pending) (r .terms .rate) →
-    d ≡ drawingOf (linkPlan (r .terms .generators) (r .terms .consumers) (r .schedule .rank) (r .links .link)) (k .bank) (r .consumers .outstanding) →
-    ends ≡ eqb (r .counts .gone + 1) (r .terms .cycle) →
+pub steps-are : (t : Terms) (n : Counts) (link rank held pending outstanding : List ℕ) {k : Credit} {d : Drawing} {ends : Bool} {l : Lapse} →
+    k ≡ creditOf (record { balance = held }) pending (t .rate) →
+    d ≡ drawingOf (linkPlan (t .generators) (t .consumers) rank link) (k .bank) outstanding →
+    ends ≡ eqb (n .gone + 1) (t .cycle) →
     l ≡ lapseOf (d .bank) ends →
-    record { charge = k .charge; drawn = d .drawn; supplied = d .supplied; lapsed = l .lapsed; balance = l .bank .balance } ≡ monthIn r
-unfolding monthIn
-steps-are r credited drawn-on ended lapsed-so =
-    let drawing =
-    drawn-on ∙
-    ap (λ (k : Credit). drawingOf (linkPlan (r .terms .generators) (r .terms .consumers) (r .schedule .rank) (r .links .link)) (k .bank) (r .consumers .outstanding)) credited in
-    let lapse = lapsed-so ∙ ap₂ (λ (d : Drawing) (t : Bool). lapseOf (d .bank) t) drawing ended in
+    record { charge = k .charge; drawn = d .drawn; supplied = d .supplied; lapsed = l .lapsed; balance = l .bank .balance } ≡ monthFrom t n link rank held pending outstanding
+unfolding monthFrom
+steps-are t n link rank held pending outstanding credited drawn-on ended lapsed-so =
+    let drawing = drawn-on ∙ ap (λ (k : Credit). drawingOf (linkPlan (t .generators) (t .consumers) rank link) (k .bank) outstanding) credited in
+    let lapse = lapsed-so ∙ ap₂ (λ (d : Drawing) (e : Bool). lapseOf (d .bank) e) drawing ended in
     λ i. record { charge = credited i .charge; drawn = drawing i .drawn; supplied = drawing i .supplied; lapsed = lapse i .lapsed; balance = lapse i .bank .balance }
 
--- what the steps ask of a record
-pub record Closable (r : Record) : Type 0 where
-  pub creditable : Creditable (record { balance = r .generators .bank }) (r .generators .pending) (r .terms .rate)
-  pub drawable : Drawable (r .terms .generators) (r .terms .consumers) (r .consumers .outstanding)
-  pub gone-few : r .counts .gone ≤ 12
+-- what the steps ask of the arrays
+pub record Closable (t : Terms) (n : Counts) (held pending outstanding : List ℕ) : Type 0 where
+  pub creditable : Creditable (record { balance = held }) pending (t .rate)
+  pub drawable : Drawable (t .generators) (t .consumers) outstanding
+  pub gone-few : n .gone ≤ 12
 
 -- by the figures
 unfoldable pub monthOf : Book → Month
@@ -110,7 +113,7 @@ module _ (r : Record) where
       place-in 8 (table 8 f) g l ∙ getD-table 8 f g 0 l ∙ ap (λ (s : ℕ → ℕ). s g) (stock-is (r .terms .consumers))
 
   pub month-is : monthIn r ≡ monthOf (figures r)
-  unfolding monthIn monthOf creditOf drawingOf lapseOf linked has want credited charge takenUp lapsed bankAfter lapses figures generatorAt linkPlan
+  unfolding monthFrom monthOf creditOf drawingOf lapseOf linked has want credited charge takenUp lapsed bankAfter lapses figures generatorAt linkPlan
   month-is =
       let ends = eqb (r .counts .gone + 1) (r .terms .cycle) in
       λ i. record {

@@ -67,7 +67,7 @@ module _ (b : Book) (f : Facts b) where
       (and-then (moderate-table C _ (λ c l. supplied-small c)) no-more))))))
 
 module _ (r : Record) (f : Facts (figures r)) where
-  pub generators-room : GeneratorsRoom (r .generators) (monthOf (figures r)) (r .terms .consumers)
+  pub generators-room : let x = monthOf (figures r) in GeneratorsRoom (r .generators) (x .drawn) (x .charge) (x .lapsed) (r .terms .consumers)
   unfolding monthOf figures planOf generatorAt
   generators-room =
       let b = figures r in
@@ -81,7 +81,7 @@ module _ (r : Record) (f : Facts (figures r)) where
         lapsed-room = room 8 (x .lapsed) _ (λ g l. omega (arith, most g, f .gen g .equation)) (λ g l. omega (arith, at-table 8 (lapsed b) g l, lapsed-small b f g));
       }
 
-  pub consumers-room : ConsumersRoom (r .consumers) (monthOf (figures r)) (r .terms .generators)
+  pub consumers-room : let x = monthOf (figures r) in ConsumersRoom (r .consumers) (x .drawn) (x .supplied) (r .terms .generators)
   unfolding monthOf figures planOf consumerAt
   consumers-room =
       let b = figures r in

@@ -19,43 +19,44 @@ use Rattle.closing.specs.declared.Month.{Month}
 unfoldable pub monthsGone : Terms → Counts → ℕ
 monthsGone t n = if eqb (n .gone + 1) (t .cycle) then 0 else n .gone + 1
 
-unfoldable pub generatorsAfter : Generators → Month → ℕ → Generators
-generatorsAfter t x m =
+-- what was drawn by pair, charged and lapsed is added; the bank is what step 4 leaves
+unfoldable pub generatorsAfter : Generators → (drawn charge lapsed balance : List ℕ) → ℕ → Generators
+generatorsAfter t drawn charge lapsed balance m =
     record {
       injected = t .injected;
       unaccounted = t .unaccounted;
       lost = t .lost;
       setoff = t .setoff;
       inadvertent = t .inadvertent;
-      charge = added8 (t .charge) (x .charge);
-      drawn = added8 (t .drawn) (rowSums (x .drawn) m);
-      lapsed = added8 (t .lapsed) (x .lapsed);
-      bank = x .balance;
+      charge = added8 (t .charge) charge;
+      drawn = added8 (t .drawn) (rowSums drawn m);
+      lapsed = added8 (t .lapsed) lapsed;
+      bank = balance;
       pending = replicate 8 0;
     }
 
-unfoldable pub consumersAfter : Consumers → Month → ℕ → Consumers
-consumersAfter t x n =
+unfoldable pub consumersAfter : Consumers → (drawn supplied : List ℕ) → ℕ → Consumers
+consumersAfter t drawn supplied n =
     record {
       metered = t .metered;
       setoff = t .setoff;
       shortfall = t .shortfall;
-      drawn = added16 (t .drawn) (columnSums (x .drawn) n);
-      supplied = added16 (t .supplied) (x .supplied);
+      drawn = added16 (t .drawn) (columnSums drawn n);
+      supplied = added16 (t .supplied) supplied;
       outstanding = replicate 16 0;
     }
 
 -- the sums fit 64 bits
-pub record GeneratorsRoom (t : Generators) (x : Month) (m : ℕ) : Type 0 where
-  pub drawn-moderate : Moderate (x .drawn)
-  pub charge-room : Room 8 (t .charge) (x .charge)
-  pub drawn-room : Room 8 (t .drawn) (rowSums (x .drawn) m)
-  pub lapsed-room : Room 8 (t .lapsed) (x .lapsed)
+pub record GeneratorsRoom (t : Generators) (drawn charge lapsed : List ℕ) (m : ℕ) : Type 0 where
+  pub drawn-moderate : Moderate drawn
+  pub charge-room : Room 8 (t .charge) charge
+  pub drawn-room : Room 8 (t .drawn) (rowSums drawn m)
+  pub lapsed-room : Room 8 (t .lapsed) lapsed
 
-pub record ConsumersRoom (t : Consumers) (x : Month) (n : ℕ) : Type 0 where
-  pub drawn-moderate : Moderate (x .drawn)
-  pub drawn-room : Room 16 (t .drawn) (columnSums (x .drawn) n)
-  pub supplied-room : Room 16 (t .supplied) (x .supplied)
+pub record ConsumersRoom (t : Consumers) (drawn supplied : List ℕ) (n : ℕ) : Type 0 where
+  pub drawn-moderate : Moderate drawn
+  pub drawn-room : Room 16 (t .drawn) (columnSums drawn n)
+  pub supplied-room : Room 16 (t .supplied) supplied
 
 -- the whole record, by what the steps gave
 unfoldable pub recordAfterClosing : Record → Month → Record
@@ -66,13 +67,11 @@ recordAfterClosing r x =
       agreed = r .agreed;
       links = r .links;
       schedule = r .schedule;
-      generators = generatorsAfter (r .generators) x (r .terms .consumers);
-      consumers = consumersAfter (r .consumers) x (r .terms .generators);
+      generators = generatorsAfter (r .generators) (x .drawn) (x .charge) (x .lapsed) (x .balance) (r .terms .consumers);
+      consumers = consumersAfter (r .consumers) (x .drawn) (x .supplied) (r .terms .generators);
     }
 
 pub record RecordRoom (r : Record) (x : Month) : Type 0 where
-  pub generators-few : r .terms .generators ≤ 8
-  pub consumers-few : r .terms .consumers ≤ 16
   pub gone-few : r .counts .gone ≤ 12
-  pub generators-room : GeneratorsRoom (r .generators) x (r .terms .consumers)
-  pub consumers-room : ConsumersRoom (r .consumers) x (r .terms .generators)
+  pub generators-room : GeneratorsRoom (r .generators) (x .drawn) (x .charge) (x .lapsed) (r .terms .consumers)
+  pub consumers-room : ConsumersRoom (r .consumers) (x .drawn) (x .supplied) (r .terms .generators)

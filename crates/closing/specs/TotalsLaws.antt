@@ -39,7 +39,7 @@ module _ (r : Record) (f : Facts (figures r)) (s : Shape r) where
   unfolding figures planOf
   G8 = f .counts .G-high
 
-  generators-are : generatorsAfter (r .generators) (monthOf (figures r)) (r .terms .consumers) ≡ storedGenerators (generatorAfterClosing (figures r))
+  generators-are : let x = monthOf (figures r) in generatorsAfter (r .generators) (x .drawn) (x .charge) (x .lapsed) (x .balance) (r .terms .consumers) ≡ storedGenerators (generatorAfterClosing (figures r))
   unfolding generatorsAfter monthOf storedGenerators generatorAfterClosing figures generatorAt planOf
   generators-are =
       let x = r .generators in
@@ -58,7 +58,7 @@ module _ (r : Record) (f : Facts (figures r)) (s : Shape r) where
         pending = zeros8 i;
       }
 
-  consumers-are : consumersAfter (r .consumers) (monthOf (figures r)) (r .terms .generators) ≡ storedConsumers (consumerAfterClosing (figures r))
+  consumers-are : let x = monthOf (figures r) in consumersAfter (r .consumers) (x .drawn) (x .supplied) (r .terms .generators) ≡ storedConsumers (consumerAfterClosing (figures r))
   unfolding consumersAfter monthOf storedConsumers consumerAfterClosing figures consumerAt planOf
   consumers-are =
       let x = r .consumers in

@@ -4,13 +4,16 @@ ghost use Prim.Native.Nat.{_+_, _≤_};
 ghost use lib.Dec.{eqb};
 ghost use lib.ListN.{length};
 ghost use Rattle.record.specs.Called.{numberOn};
+ghost use Rattle.record.specs.Stored.{recordFrom};
+ghost use Rattle.record.specs.Shape.{LinksShape, ScheduleShape};
 ghost use Rattle.bank.specs.Closing.{closingRule, Closed};
 ghost use Rattle.closing.specs.Refusals.{ownRefusal};
-ghost use Rattle.closing.specs.Totals.{generatorsAfter, consumersAfter, monthsGone, GeneratorsRoom, ConsumersRoom, recordAfterClosing, RecordRoom};
-ghost use Rattle.closing.specs.Month.{Closable, monthIn};
-ghost use Rattle.closing.specs.Output.{OutputRoom, sixLists, monthWritten};
+ghost use Rattle.closing.specs.Totals.{generatorsAfter, consumersAfter, monthsGone, GeneratorsRoom, ConsumersRoom};
+ghost use Rattle.closing.specs.Month.{Closable, monthFrom};
+ghost use Rattle.closing.specs.Output.{OutputRoom, sixLists};
 ghost use Rattle.closing.specs.Accepted.{MonthClosed};
 use bank::Bank;
+use record::Agreed;
 use record::Answer;
 use record::Consumers;
 use record::Counts;
@@ -27,6 +30,13 @@ pub struct Month {
     pub balance: [u64; 8],
 }
 
+// What a closing changes of a record.
+pub struct Totals {
+    pub counts: Counts,
+    pub generators: Generators,
+    pub consumers: Consumers,
+}
+
 // The refusals of a sound record with n generators and m consumers.
 fn own_refusal(n: usize, m: usize, month: u64, size: usize) -> u32
     requires { ⌜ (n ≤ 8) × (m ≤ 16) ⌝ }
@@ -37,12 +47,32 @@ fn own_refusal(n: usize, m: usize, month: u64, size: usize) -> u32
     lists::first(!sized, 2, empty)
 }
 
-fn refusal(r: Record, size: usize) -> u32
-    ensures { λ x. ⌜ x ≡ numberOn (closingRule size) r ⌝ }
+// The number of a closing on a record that is given by its parts; the pair lists are lent where they lie.
+pub fn refusal_on<'a>(
+    terms: Terms,
+    counts: Counts,
+    agreed: Agreed,
+    link: &'a [u64; 128],
+    loss: &'a [u64; 128],
+    kw: &'a [u64; 128],
+    rank: &'a [u64; 128],
+    generators: Generators,
+    consumers: Consumers,
+    size: usize,
+) -> u32
+    ensures { λ x. ⌜ x ≡ numberOn (closingRule size) (recordFrom terms counts agreed (now (link .entry)) (now (loss .entry)) (now (kw .entry)) (now (rank .entry)) generators consumers) ⌝ }
 {
-    if record::is_sound(r) {
-        let terms = r.terms;
-        let counts = r.counts;
+    if record::parts_sound(
+        terms,
+        counts,
+        agreed,
+        link,
+        loss,
+        kw,
+        rank,
+        generators,
+        consumers,
+    ) {
         let n = terms.generators as usize;
         let m = terms.consumers as usize;
         own_refusal(n, m, counts.month, size)
@@ -72,22 +102,25 @@ fn months_gone(terms: Terms, counts: Counts) -> u64
 }
 
 // Steps 1 to 4 on the arrays of a record.
-fn steps(r: Record) -> Month
-    requires { ⌜ Closable r ⌝ }
-    ensures { λ x. ⌜ x ≡ monthIn r ⌝ }
+fn steps<'a>(
+    terms: Terms,
+    counts: Counts,
+    link: &'a [u64; 128],
+    rank: &'a [u64; 128],
+    held: [u64; 8],
+    pending: [u64; 8],
+    outstanding: [u64; 16],
+) -> Month
+    requires { ⌜ Closable terms counts held pending outstanding ⌝ }
+    ensures { λ x. ⌜ x ≡ monthFrom terms counts (now (link .entry)) (now (rank .entry)) held pending outstanding ⌝ }
 {
-    let terms = r.terms;
-    let counts = r.counts;
-    let held = r.generators.bank;
-    let pending = r.generators.pending;
-    let outstanding = r.consumers.outstanding;
     let n = terms.generators as usize;
     let m = terms.consumers as usize;
     let before = Bank { balance: held };
     let credit = before.credit(pending, terms.rate);
     let credited = credit.bank;
     let charge = credit.charge;
-    let drawing = bank::draw_all(credited, n, m, &r.schedule.rank, &r.links.link, outstanding);
+    let drawing = bank::draw_all(credited, n, m, rank, link, outstanding);
     let drawn_on = drawing.bank;
     let drawn = drawing.drawn;
     let supplied = drawing.supplied;
@@ -104,81 +137,46 @@ fn steps(r: Record) -> Month
     }
 }
 
-fn generators_after(t: Generators, x: Month, m: usize) -> Generators
-    requires { ⌜ (m ≤ 16) × GeneratorsRoom t x m ⌝ }
-    ensures { λ r. ⌜ r ≡ generatorsAfter t x m ⌝ }
+fn generators_after(
+    t: Generators,
+    drawn: &[u64; 128],
+    charge: [u64; 8],
+    lapsed: [u64; 8],
+    balance: [u64; 8],
+    m: usize,
+) -> Generators
+    requires { ⌜ (m ≤ 16) × GeneratorsRoom t (now drawn) charge lapsed m ⌝ }
+    ensures { λ r. ⌜ r ≡ generatorsAfter t (now (drawn .entry)) charge lapsed balance m ⌝ }
 {
-    let injected = t.injected;
-    let unaccounted = t.unaccounted;
-    let lost = t.lost;
-    let setoff = t.setoff;
-    let inadvertent = t.inadvertent;
-    let charge = t.charge;
-    let drawn = t.drawn;
-    let lapsed = t.lapsed;
-    let charged = x.charge;
-    let by_pair = x.drawn;
-    let gone = x.lapsed;
-    let bank = x.balance;
-    let pending = [0u64; 8];
-    Generators {
-        injected,
-        unaccounted,
-        lost,
-        setoff,
-        inadvertent,
-        charge: arrays::add8(charge, charged),
-        drawn: arrays::add8(drawn, arrays::row_sums(&by_pair, m)),
-        lapsed: arrays::add8(lapsed, gone),
-        bank,
-        pending,
-    }
+    let charged = t.charge;
+    let given = t.drawn;
+    let gone = t.lapsed;
+    let charge_total = arrays::add8(charged, charge);
+    let drawn_total = arrays::add8(given, arrays::row_sums(drawn, m));
+    let lapsed_total = arrays::add8(gone, lapsed);
+    let none = [0u64; 8];
+    let mut after = t;
+    after.charge = charge_total;
+    after.drawn = drawn_total;
+    after.lapsed = lapsed_total;
+    after.bank = balance;
+    after.pending = none;
+    after
 }
 
-fn consumers_after(t: Consumers, x: Month, n: usize) -> Consumers
-    requires { ⌜ (n ≤ 8) × ConsumersRoom t x n ⌝ }
-    ensures { λ r. ⌜ r ≡ consumersAfter t x n ⌝ }
+fn consumers_after(t: Consumers, drawn: &[u64; 128], supplied: [u64; 16], n: usize) -> Consumers
+    requires { ⌜ (n ≤ 8) × ConsumersRoom t (now drawn) supplied n ⌝ }
+    ensures { λ r. ⌜ r ≡ consumersAfter t (now (drawn .entry)) supplied n ⌝ }
 {
-    let metered = t.metered;
-    let setoff = t.setoff;
-    let shortfall = t.shortfall;
-    let drawn = t.drawn;
-    let supplied = t.supplied;
-    let by_pair = x.drawn;
-    let from_outside = x.supplied;
-    let outstanding = [0u64; 16];
-    Consumers {
-        metered,
-        setoff,
-        shortfall,
-        drawn: arrays::add16(drawn, arrays::column_sums(&by_pair, n)),
-        supplied: arrays::add16(supplied, from_outside),
-        outstanding,
-    }
-}
-
-// The whole record after the closing.
-fn after_closing(r: Record, x: Month) -> Record
-    requires { ⌜ RecordRoom r x ⌝ }
-    ensures { λ a. ⌜ a ≡ recordAfterClosing r x ⌝ }
-{
-    let terms = r.terms;
-    let counted = r.counts;
-    let before = r.generators;
-    let owed = r.consumers;
-    let n = terms.generators as usize;
-    let m = terms.consumers as usize;
-    let counts = Counts {
-        gone: months_gone(terms, counted),
-        blocks: counted.blocks,
-        month: 0,
-    };
-    let generators = generators_after(before, x, m);
-    let consumers = consumers_after(owed, x, n);
-    let mut after = r;
-    after.counts = counts;
-    after.generators = generators;
-    after.consumers = consumers;
+    let taken = t.drawn;
+    let bought = t.supplied;
+    let drawn_total = arrays::add16(taken, arrays::column_sums(drawn, n));
+    let supplied_total = arrays::add16(bought, supplied);
+    let none = [0u64; 16];
+    let mut after = t;
+    after.drawn = drawn_total;
+    after.supplied = supplied_total;
+    after.outstanding = none;
     after
 }
 
@@ -210,16 +208,28 @@ fn write_lists(
     arrays::put16(out, last, &supplied, m);
 }
 
-// Steps 1 to 4, and the output.
-fn accepted(r: Record, out: &mut [u64]) -> Record
-    requires { ⌜ numberOn (closingRule (length (now out))) r ≡ 0 ⌝ }
-    ensures { λ a. ⌜ MonthClosed r a (now (out .exit)) ⌝ }
+// Steps 1 to 4, and the output, on a record that is given by its parts.
+pub fn close_on<'a>(
+    terms: Terms,
+    counts: Counts,
+    agreed: Agreed,
+    link: &'a [u64; 128],
+    loss: &'a [u64; 128],
+    kw: &'a [u64; 128],
+    rank: &'a [u64; 128],
+    generators: Generators,
+    consumers: Consumers,
+    out: &mut [u64],
+) -> Totals
+    requires { ⌜ LinksShape (record { link = now link; loss = now loss }) × ScheduleShape (record { kw = now kw; rank = now rank }) × (numberOn (closingRule (length (now out))) (recordFrom terms counts agreed (now link) (now loss) (now kw) (now rank) generators consumers) ≡ 0) ⌝ }
+    ensures { λ t. ⌜ MonthClosed (recordFrom terms counts agreed (now (link .entry)) (now (loss .entry)) (now (kw .entry)) (now (rank .entry)) generators consumers) (recordFrom terms (t .counts) agreed (now (link .entry)) (now (loss .entry)) (now (kw .entry)) (now (rank .entry)) (t .generators) (t .consumers)) (now (out .exit)) ⌝ }
 {
-    let terms = r.terms;
-    let outstanding = r.consumers.outstanding;
+    let held = generators.bank;
+    let pending = generators.pending;
+    let outstanding = consumers.outstanding;
     let n = terms.generators as usize;
     let m = terms.consumers as usize;
-    let x = steps(r);
+    let x = steps(terms, counts, link, rank, held, pending, outstanding);
     let charge = x.charge;
     let lapsed = x.lapsed;
     let balance = x.balance;
@@ -235,16 +245,58 @@ fn accepted(r: Record, out: &mut [u64]) -> Record
         n,
         m,
     );
-    after_closing(r, x)
+    Totals {
+        counts: Counts {
+            gone: months_gone(terms, counts),
+            blocks: counts.blocks,
+            month: 0,
+        },
+        generators: generators_after(generators, &x.drawn, charge, lapsed, balance, m),
+        consumers: consumers_after(consumers, &x.drawn, supplied, n),
+    }
 }
 
 // Closes a month, with the slice for its lists.
 pub fn close(r: Record, out: &mut [u64]) -> Answer
     ensures { λ a. ⌜ Closed r (now (out .entry)) a (now (out .exit)) ⌝ }
 {
-    let number = refusal(r, out.len());
+    let terms = r.terms;
+    let counts = r.counts;
+    let agreed = r.agreed;
+    let generators = r.generators;
+    let consumers = r.consumers;
+    let number = refusal_on(
+        terms,
+        counts,
+        agreed,
+        &r.links.link,
+        &r.links.loss,
+        &r.schedule.kw,
+        &r.schedule.rank,
+        generators,
+        consumers,
+        out.len(),
+    );
     if number == 0 {
-        let after = accepted(r, out);
+        let t = close_on(
+            terms,
+            counts,
+            agreed,
+            &r.links.link,
+            &r.links.loss,
+            &r.schedule.kw,
+            &r.schedule.rank,
+            generators,
+            consumers,
+            out,
+        );
+        let next = t.counts;
+        let given = t.generators;
+        let taken = t.consumers;
+        let mut after = r;
+        after.counts = next;
+        after.generators = given;
+        after.consumers = taken;
         Answer { number: 0, after }
     } else {
         Answer { number, after: r }

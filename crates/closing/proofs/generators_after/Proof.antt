@@ -14,7 +14,7 @@ row-sums-requires c κs = search needs
 
 add8-requires-2 : tie.Need-add8-requires-2
 unfolding rowSums
-add8-requires-2 c κs = rw (c .row-sums .ensures) (c .before .before .before .before .before .before .before .before .before .before .before .before .before .before .before .pre .1 .drawn-room)
+add8-requires-2 c κs = rw (c .row-sums .ensures) (c .before .before .before .before .before .pre .1 .drawn-room)
 
 add8-requires-3 : tie.Need-add8-requires-3
 add8-requires-3 c κs = search needs
@@ -22,10 +22,10 @@ add8-requires-3 c κs = search needs
 returns : tie.Need-returns
 unfolding generatorsAfter added8 rowSums
 returns c =
-    let s = c .before .before .before .before .before .before .before .before .before .before .before .before .before .before .before .before .before .args in
+    let s = c .before .before .before .before .before .before .before .args in
     let t = s .t in
     let drawn = rw (c .before .before .row-sums .ensures) at (c .before .add82 .ensures) in
-    λ i. record { injected = t .injected; unaccounted = t .unaccounted; lost = t .lost; setoff = t .setoff; inadvertent = t .inadvertent; charge = c .before .before .before .before .add8 .ensures i; drawn = drawn i; lapsed = c .add83 .ensures i; bank = s .x .balance; pending = replicate 8 0 }
+    λ i. record { injected = t .injected; unaccounted = t .unaccounted; lost = t .lost; setoff = t .setoff; inadvertent = t .inadvertent; charge = c .before .before .before .add8 .ensures i; drawn = drawn i; lapsed = c .add83 .ensures i; bank = s .balance; pending = replicate 8 0 }
 
 pub generators-after-spec : {M : Type 1} → statement M
 generators-after-spec =

@@ -17,7 +17,9 @@ lapse-requires : tie.Need-lapse-requires
 lapse-requires c κs = search needs
 
 returns : tie.Need-returns
-returns c = steps-are (c .before .before .before .before .before .before .before .before .before .before .before .before .before .before .before .before .before .before .before .before .args .t1) (c .before .before .before .before .before .before .before .before .before .before .before .before .before .before .credit .ensures) (c .before .before .before .before .before .before .before .before .draw-all .ensures) (c .before .before .before .before .cycle-ends .ensures) (c .before .before .before .lapse .ensures)
+returns c =
+    let a = c .before .before .before .before .before .before .before .before .before .before .before .before .args in
+    steps-are (a .terms) (a .counts) (a .link .now) (a .rank .now) (a .held) (a .pending) (a .outstanding) (c .before .before .before .before .before .before .before .before .before .before .before .credit .ensures) (c .before .before .before .before .before .before .before .before .draw-all .ensures) (c .before .before .before .before .cycle-ends .ensures) (c .before .before .before .lapse .ensures)
 
 pub steps-spec : {M : Type 1} → statement M
 steps-spec =

@@ -1,0 +1,102 @@
+-- `closing::close_on` meets its contract: the record and the output are those of the rules.
+use lib.ListN.{length-map}
+use mathlib.Core.Path.{_≡_, _∙_}
+use Rattle.record.specs.Shape.{Shape}
+use Rattle.record.specs.Stored.{recordFrom}
+use Rattle.closing.specs.Output.{monthWritten}
+use Rattle.closing.specs.Totals.{RecordRoom, recordAfterClosing}
+use Rattle.closing.specs.Accepted.{generators-few, consumers-few, output-size, closable, record-room, record-after, output-after}
+use Prim.Native.Nat.{ℕ}
+use mathlib.Core.List.{List}
+use Rattle.record.specs.declared.Agreed.{Agreed}
+use Rattle.record.specs.declared.Consumers.{Consumers}
+use Rattle.record.specs.declared.Generators.{Generators}
+use Rattle.record.specs.declared.Terms.{Terms}
+use borrow.Author.Needs.{needs}
+use Rattle.closing.proofs.close_on.Statement.{statement}
+use Rattle.closing.proofs.close_on.Tie as tie
+
+steps-requires : tie.Need-steps-requires
+steps-requires c κs = closable _ _ (c .before .before .before .before .pre .2)
+
+write-lists-requires : tie.Need-write-lists-requires
+write-lists-requires c κs = let z = c .before .before .before .before .before .before .before .before .before .before .before .before .pre .2 in record { size = output-size _ _ z; rows = generators-few _ _ z; columns = consumers-few _ _ z }
+
+-- what the totals rest on, once the steps are done
+room : (c : tie.After-steps) → let a = c .before .before .before .before .before .args in
+    RecordRoom (recordFrom (a .terms) (a .counts) (a .agreed) (a .link .now) (a .loss .now) (a .kw .now) (a .rank .now) (a .generators) (a .consumers)) (c .steps .result)
+room c = record-room _ _ (c .before .before .before .before .before .pre .2) _ (c .steps .ensures)
+
+months-gone-requires : tie.Need-months-gone-requires
+months-gone-requires c κs = room (c .before .before .before .before .before .before .before .before .before .before) .gone-few
+
+generators-after-requires : tie.Need-generators-after-requires
+generators-after-requires c κs = (consumers-few _ _ (c .before .before .before .before .before .before .before .before .before .before .before .before .before .before .before .before .before .before .pre .2), room (c .before .before .before .before .before .before .before .before .before .before .before .before .before) .generators-room)
+
+consumers-after-requires : tie.Need-consumers-after-requires
+consumers-after-requires c κs = (generators-few _ _ (c .before .before .before .before .before .before .before .before .before .before .before .before .before .before .before .before .before .before .before .before .before .pre .2), room (c .before .before .before .before .before .before .before .before .before .before .before .before .before .before .before .before) .consumers-room)
+
+same-length : tie.Need-same-length
+same-length c = search needs
+
+-- a struct by value has the lists of its type; of those that are lent the call says so
+shape : (c : tie.Start) → let a = c .args in Shape (recordFrom (a .terms) (a .counts) (a .agreed) (a .link .now) (a .loss .now) (a .kw .now) (a .rank .now) (a .generators) (a .consumers))
+shape c =
+    let agreed = c .good .1 .1 .0 .1 .1 in
+    let totals = c .good .1 .1 .1 .1 .1 .1 .1 in
+    let generators = totals .0 .1 .1 in
+    let consumers = totals .1 .0 .1 .1 in
+    record {
+      agreed = record { kind = simp length-map at (agreed .0 .1 .0 .1); installed = simp length-map at (agreed .1 .0 .1 .0 .1); contracted = simp length-map at (agreed .1 .1 .0 .1 .0 .1) };
+      links = c .pre .0;
+      schedule = c .pre .1;
+      generators =
+          record {
+            injected = simp length-map at (generators .0 .1 .0 .1);
+            unaccounted = simp length-map at (generators .1 .0 .1 .0 .1);
+            lost = simp length-map at (generators .1 .1 .0 .1 .0 .1);
+            setoff = simp length-map at (generators .1 .1 .1 .0 .1 .0 .1);
+            inadvertent = simp length-map at (generators .1 .1 .1 .1 .0 .1 .0 .1);
+            charge = simp length-map at (generators .1 .1 .1 .1 .1 .0 .1 .0 .1);
+            drawn = simp length-map at (generators .1 .1 .1 .1 .1 .1 .0 .1 .0 .1);
+            lapsed = simp length-map at (generators .1 .1 .1 .1 .1 .1 .1 .0 .1 .0 .1);
+            bank = simp length-map at (generators .1 .1 .1 .1 .1 .1 .1 .1 .0 .1 .0 .1);
+            pending = simp length-map at (generators .1 .1 .1 .1 .1 .1 .1 .1 .1 .0 .1 .0 .1);
+          };
+      consumers =
+          record {
+            metered = simp length-map at (consumers .0 .1 .0 .1);
+            setoff = simp length-map at (consumers .1 .0 .1 .0 .1);
+            shortfall = simp length-map at (consumers .1 .1 .0 .1 .0 .1);
+            drawn = simp length-map at (consumers .1 .1 .1 .0 .1 .0 .1);
+            supplied = simp length-map at (consumers .1 .1 .1 .1 .0 .1 .0 .1);
+            outstanding = simp length-map at (consumers .1 .1 .1 .1 .1 .0 .1 .0 .1);
+          };
+    }
+
+-- the record that the totals make up
+same-parts : (terms : Terms) (agreed : Agreed) (link loss kw rank : List ℕ) {n n′ blocks : ℕ} {g g′ : Generators} {o o′ : Consumers} → n ≡ n′ → g ≡ g′ → o ≡ o′ →
+    recordFrom terms (record { gone = n; blocks = blocks; month = 0 }) agreed link loss kw rank g o ≡ recordFrom terms (record { gone = n′; blocks = blocks; month = 0 }) agreed link loss kw rank g′ o′
+same-parts terms agreed link loss kw rank {blocks = blocks} n g o = λ i. recordFrom terms (record { gone = n i; blocks = blocks; month = 0 }) agreed link loss kw rank (g i) (o i)
+
+returns : tie.Need-returns
+unfolding monthWritten recordAfterClosing
+returns c =
+    let s = c .before .before .before .before .before .before .before .before .before .before .before .before .before .before .before .before .before .before .before .before .before .before in
+    let x = c .before .before .before .before .before .before .before .before .before .before .before .before .before .before .before .before .before .steps .ensures in
+    let gone = c .before .before .before .before .before .before .months-gone .ensures in
+    let generators = c .before .before .before .generators-after .ensures in
+    let consumers = c .consumers-after .ensures in
+    record { record-is = same-parts _ _ _ _ _ _ gone generators consumers ∙ record-after _ _ (s .pre .2) _ x (shape s); output-is = c .before .before .before .before .before .before .before .before .before .write-lists .ensures ∙ output-after _ _ (s .pre .2) _ x }
+
+pub close-on-spec : {M : Type 1} → statement M
+close-on-spec =
+    tie.close
+    (tie.spec
+    steps-requires
+    write-lists-requires
+    months-gone-requires
+    generators-after-requires
+    consumers-after-requires
+    same-length
+    returns)
