@@ -12,7 +12,6 @@
 """
 
 import os
-import random
 import re
 import subprocess
 import sys
@@ -25,6 +24,7 @@ from second.table import (CONSUMERS, CYCLE, GENERATOR_LIST, GENERATORS, GONE, KW
                           RATE, names_line, read_line)
 
 HOST = "examples/host.c"
+DAY = "examples/day.journal"
 STRICT = ("-std=c99", "-O1", "-Wall", "-Wextra", "-pedantic", "-Wconversion", "-Wshadow", "-Werror")
 FILE_CALLS = ("open", "read", "write", "fsync", "close", "rename")
 MEMCHECK = ("valgrind", "--quiet", "--leak-check=full", "--show-leak-kinds=all",
@@ -132,10 +132,10 @@ def good_run(what, host, disk, journal, record):
 
 
 def day_journal():
-    luck = random.Random(1)
-    lines = [b"%d,%d,%d\n" % tuple(luck.randrange(most) for most in (90_000, 40_000, 60_000))
-             for _ in range(BLOCKS_A_DAY)]
-    return NAMES + b"".join(lines) + b"close\n"
+    with open(DAY, "rb") as file:
+        journal = file.read()
+    check("a day's blocks", journal.count(b"\n") == BLOCKS_A_DAY + 2)
+    return journal
 
 
 def good_runs(host):

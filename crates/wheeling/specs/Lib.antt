@@ -3,3 +3,4 @@ pub mod Reading
 pub mod ReadingLaws
 pub mod WheelingLaws
 pub mod ByRule
+pub mod PartsLaws

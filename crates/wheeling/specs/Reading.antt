@@ -35,6 +35,10 @@ pub record Kept (a : Answer) (bytes : List ℕ) (number : ℕ) (bytes′ : List 
   pub number-is : number ≡ a .number
   pub record-is : bytes′ ≡ bytesAfter number (words (a .after)) bytes
 
+-- a call was made on the record that the bytes hold: it gave an answer, which is kept
+abbrev pub Made : (Answer → Type 0) → (bytes : List ℕ) (number : ℕ) (bytes′ : List ℕ) → Type 0
+Made ensured bytes number bytes′ = (a : Answer) × (ensured a × Kept a bytes number bytes′)
+
 -- and its output written
 pub record Written (refusal : ℕ) (out lent : List ℕ) (number : ℕ) (lent′ : List ℕ) : Type 0 where
   pub number-is : number ≡ refusal

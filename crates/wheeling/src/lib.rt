@@ -5,7 +5,7 @@ ghost use lib.ListN.{length};
 ghost use Rattle.block.specs.Block.{Blocked};
 ghost use Rattle.bank.specs.Closing.{Closed};
 ghost use Rattle.wheeling.specs.Wheeling.{recordIn, numbersIn, Done, openingIn, ByteOpened, ByteScheduled, ByteBlocked, ByteClosed};
-ghost use Rattle.wheeling.specs.Reading.{Taken, Fits, Room, Kept, Written};
+ghost use Rattle.wheeling.specs.Reading.{Taken, Fits, Room, Kept, Made, Written};
 
 const RECORD_BYTES: usize = 5752;
 
@@ -65,6 +65,106 @@ fn give(refusal: u32, out: &[u64], output: &mut [u8]) -> u32
     refusal
 }
 
+// A block on the record that the bytes hold: its parts are read, and those stored that the block changes.
+fn block_on_record(bytes: &mut [u8], entry: &[u32], exit: &[u32], out: &mut [u64]) -> u32
+    requires { ⌜ length (now bytes) ≡ 5752 ⌝ }
+    ensures { λ r. ⌜ Made (λ a. Blocked (recordIn (now (bytes .entry))) (now (entry .entry)) (now (exit .entry)) (now (out .entry)) a (now (out .exit))) (now (bytes .entry)) r (now (bytes .exit)) ⌝ }
+{
+    let terms = layout::load_terms(bytes);
+    let counts = layout::load_counts(bytes);
+    let agreed = layout::load_agreed(bytes);
+    let link = layout::load_pairs(bytes, layout::LINK);
+    let loss = layout::load_pairs(bytes, layout::LOSS);
+    let kw = layout::load_pairs(bytes, layout::KW);
+    let rank = layout::load_pairs(bytes, layout::RANK);
+    let generators = layout::load_generators(bytes);
+    let consumers = layout::load_consumers(bytes);
+    let number = block::refusal_on(
+        terms,
+        counts,
+        agreed,
+        &link,
+        &loss,
+        &kw,
+        &rank,
+        generators,
+        consumers,
+        entry,
+        exit,
+        out.len(),
+    );
+    if number == 0 {
+        let t = block::enter(
+            terms,
+            counts,
+            agreed,
+            &link,
+            &loss,
+            &kw,
+            &rank,
+            generators,
+            consumers,
+            entry,
+            exit,
+            out,
+        );
+        let raised = t.counts;
+        let given = t.generators;
+        let taken = t.consumers;
+        layout::store_totals(raised, given, taken, bytes);
+        return 0;
+    }
+    number
+}
+
+// A closing likewise.
+fn close_on_record(bytes: &mut [u8], out: &mut [u64]) -> u32
+    requires { ⌜ length (now bytes) ≡ 5752 ⌝ }
+    ensures { λ r. ⌜ Made (λ a. Closed (recordIn (now (bytes .entry))) (now (out .entry)) a (now (out .exit))) (now (bytes .entry)) r (now (bytes .exit)) ⌝ }
+{
+    let terms = layout::load_terms(bytes);
+    let counts = layout::load_counts(bytes);
+    let agreed = layout::load_agreed(bytes);
+    let link = layout::load_pairs(bytes, layout::LINK);
+    let loss = layout::load_pairs(bytes, layout::LOSS);
+    let kw = layout::load_pairs(bytes, layout::KW);
+    let rank = layout::load_pairs(bytes, layout::RANK);
+    let generators = layout::load_generators(bytes);
+    let consumers = layout::load_consumers(bytes);
+    let number = closing::refusal_on(
+        terms,
+        counts,
+        agreed,
+        &link,
+        &loss,
+        &kw,
+        &rank,
+        generators,
+        consumers,
+        out.len(),
+    );
+    if number == 0 {
+        let t = closing::close_on(
+            terms,
+            counts,
+            agreed,
+            &link,
+            &loss,
+            &kw,
+            &rank,
+            generators,
+            consumers,
+            out,
+        );
+        let next = t.counts;
+        let given = t.generators;
+        let taken = t.consumers;
+        layout::store_totals(next, given, taken, bytes);
+        return 0;
+    }
+    number
+}
+
 // A block whose lists are read; `out` is room for its output as numbers.
 fn block_on_numbers(
     bytes: &mut [u8],
@@ -76,9 +176,7 @@ fn block_on_numbers(
     requires { ⌜ (length (now bytes) ≡ 5752) × Fits 537 (length (now out)) (now output) ⌝ }
     ensures { λ r. ⌜ Done (Blocked (recordIn (now (bytes .entry))) (now (entry .entry)) (now (exit .entry)) (now (out .entry))) (now (bytes .entry)) (now (output .entry)) r (now (bytes .exit)) (now (output .exit)) ⌝ }
 {
-    let r = layout::load(bytes);
-    let a = block::block(r, entry, exit, out);
-    let number = keep(a, bytes);
+    let number = block_on_record(bytes, entry, exit, out);
     give(number, out, output)
 }
 
@@ -86,9 +184,7 @@ fn close_on_numbers(bytes: &mut [u8], out: &mut [u64], output: &mut [u8]) -> u32
     requires { ⌜ (length (now bytes) ≡ 5752) × Fits 185 (length (now out)) (now output) ⌝ }
     ensures { λ r. ⌜ Done (Closed (recordIn (now (bytes .entry))) (now (out .entry))) (now (bytes .entry)) (now (output .entry)) r (now (bytes .exit)) (now (output .exit)) ⌝ }
 {
-    let r = layout::load(bytes);
-    let a = closing::close(r, out);
-    let number = keep(a, bytes);
+    let number = close_on_record(bytes, out);
     give(number, out, output)
 }
 
