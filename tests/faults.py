@@ -19,7 +19,7 @@ import time
 from collections import Counter
 from pathlib import Path
 
-from unproved import REPOSITORY, NotCompiled, compile_unproved, library_of, reached_by
+from unproved import LIBRARY, REPOSITORY, NotCompiled, compile_unproved, reached_by
 
 # Name: file under crates/, old text, new text.
 FAULTS = {
@@ -42,8 +42,8 @@ FAULTS = {
         ("agreement/src/lib.rt", "(m <= 16)", "(m <= 15)"),
     # schedule
     "schedule: refusal 8 before 7":
-        ("agreement/src/lib.rt", "refusal(7, unlinked, refusal(8, over,",
-         "refusal(8, over, refusal(7, unlinked,"),
+        ("agreement/src/lib.rt", "first(unlinked, 7, lists::first(over, 8,",
+         "first(over, 8, lists::first(unlinked, 7,"),
     "schedule: rank 0 allowed":
         ("agreement/src/lib.rt", "any_outside(ranks, 0, count, 1,",
          "any_outside(ranks, 0, count, 0,"),
@@ -54,12 +54,13 @@ FAULTS = {
          "let rank = spread(kws, 0, n, m);"),
     # block
     "block: reading limit one low":
-        ("block/src/lib.rt", "200_000_000 < readings[i]", "199_999_999 < readings[i]"),
+        ("block/src/lib.rt", "energy::MOST_READING < lists::wide", "199_999_999 < lists::wide"),
     "block: refusal 12 before 11":
-        ("block/src/lib.rt", "first(3_360 <= counts.month, 11, unit_full)",
-         "first(counts.blocks < 10_000_000, first(3_360 <= counts.month, 11, 0), unit_full)"),
+        ("block/src/lib.rt", "first(record::MOST_MONTH_BLOCKS <= counts.month, 11, unit_full)",
+         "first(counts.blocks < record::MOST_UNIT_BLOCKS, "
+         "lists::first(record::MOST_MONTH_BLOCKS <= counts.month, 11, 0), unit_full)"),
     "block: month blocks not raised":
-        ("block/src/lib.rt", "month: counted.month + 1", "month: counted.month"),
+        ("block/src/lib.rt", "month: counts.month + 1", "month: counts.month"),
     "block: metered by remainder":
         ("block/src/lib.rt", "arrays::add16(metered, exit)", "arrays::add16(metered, remainder)"),
     "block: shortfall listed as underdrawn":
@@ -109,11 +110,13 @@ FAULTS = {
         ("record/src/lib.rt", "MOST_UNIT_BLOCKS: u64 = 10_000_000",
          "MOST_UNIT_BLOCKS: u64 = 9_999_999"),
     "sound: totals by age one low":
-        ("record/src/lib.rt", "MOST_READING: u64 = 200_000_000", "MOST_READING: u64 = 199_999_999"),
+        ("record/src/lib.rt",
+         "limit_at(inside, energy::MOST_READING * blocks);\n    let split = capped(x.unaccounted)",
+         "limit_at(inside, 199_999_999 * blocks);\n    let split = capped(x.unaccounted)"),
     "sound: totals by age one high":
         ("record/src/lib.rt",
-         "limit_at(inside, MOST_READING * blocks);\n    let split = capped(x.unaccounted)",
-         "limit_at(inside, MOST_READING * blocks + 1);\n    let split = capped(x.unaccounted)"),
+         "limit_at(inside, energy::MOST_READING * blocks);\n    let split = capped(x.unaccounted)",
+         "limit_at(inside, energy::MOST_READING * blocks + 1);\n    let split = capped(x.unaccounted)"),
     "sound: kW on an unlinked pair allowed":
         ("record/src/lib.rt", "((link == 1) | (kw == 0))", "((link <= 1) | (kw == 0))"),
     "sound: rank 256 allowed":
@@ -123,8 +126,10 @@ FAULTS = {
     "sound: totals beyond G allowed":
         ("record/src/lib.rt", "generator_sound(blocks, g < n, x)",
          "generator_sound(blocks, g < 8, x)"),
-    "sound: ranges of pairs beyond C as within":
-        ("record/src/lib.rt", "(g < n) & (c < m)", "(g < n) & (c < 16)"),
+    "sound: pairs beyond C allowed":
+        ("record/src/lib.rt", "rank, start + m, start + 16)", "rank, start + 16, start + 16)"),
+    "sound: pairs beyond G allowed":
+        ("record/src/lib.rt", "rank, n * 16, 128)", "rank, 128, 128)"),
     # bytes
     "bytes: two bytes of an output swapped":
         ("codec/src/lib.rt", "s[b] = (w % 256) as u8;\n    s[b + 1] = (w1 % 256) as u8;",
@@ -134,8 +139,10 @@ FAULTS = {
     "bytes: eighth byte not read":
         ("codec/src/lib.rt", "(b7 as u64) * 72_057_594_037_927_936", "(b7 as u64) * 0"),
     "bytes: link and loss swapped when stored":
-        ("layout/src/lib.rt", "store128(link, s, LINKS);", "store128(link, s, LINKS + 128);",
-         "store128(loss, s, LINKS + 128);", "store128(loss, s, LINKS);"),
+        ("layout/src/lib.rt", "store128(link, s, LINK);", "store128(link, s, LOSS);",
+         "store128(loss, s, LOSS);", "store128(loss, s, LINK);"),
+    "bytes: counts of a block stored one place late":
+        ("layout/src/lib.rt", "&mut s[32..56]", "&mut s[40..64]"),
     "bytes: charge loaded from drawn":
         ("layout/src/lib.rt", "let charge = load8(s, GENERATORS + 40);",
          "let charge = load8(s, GENERATORS + 48);"),
@@ -220,8 +227,7 @@ def tried(files):
 
 def main():
     words = sys.argv[1:]
-    library, _ = library_of(REPOSITORY / "crates")
-    faults = [*must_fail_edits(reached_by(library) + [library]), *own_faults()]
+    faults = [*must_fail_edits(reached_by(LIBRARY) + [LIBRARY]), *own_faults()]
     stages, wrong = Counter(), []
     for name, files in [("the source as it stands", {}), *faults]:
         if files and words and not any(word in name for word in words):

@@ -28,9 +28,8 @@ from pathlib import Path
 HERE = Path(__file__).resolve().parent
 REPOSITORY = HERE.parent
 
-# The crate with the C calls, and C files that its calls need to become the four on bytes.
-LIBRARIES = (("wheeling", ()), ("host", (HERE / "byte_calls.c",)))
-CALLS = ("wheeling_open", "wheeling_schedule", "wheeling_block", "wheeling_close")
+# The crate with the C calls.
+LIBRARY = "wheeling"
 
 EXPORTED = re.compile(r'pub extern "C" fn (\w+)\(([^)]*)\) -> u32')
 NUMBER_TYPES = {"u8": "uint8_t", "u32": "uint32_t", "u64": "uint64_t"}
@@ -76,13 +75,6 @@ class Kit:
         script = folder / "bin" / "clang"
         script.write_text(KEEPING_CLANG.format(keep=keep, clang=self.clang))
         script.chmod(0o755)
-
-
-def library_of(crates):
-    for name, bridges in LIBRARIES:
-        if (crates / name).is_dir():
-            return name, bridges
-    raise NotCompiled(f"{crates} has no crate with the C calls")
 
 
 def reached_by(name):
@@ -141,38 +133,33 @@ def visible(module, library, names, prefix):
 def compile_unproved(target, crates=REPOSITORY / "crates", prefix="", flags=()):
     """Writes one object file with the four C calls of the source under `crates`."""
     kit = Kit()
-    library, bridges = library_of(crates)
     with tempfile.TemporaryDirectory() as name:
         work = Path(name)
         kit.keeping_toolchain(work / "toolchain", work)
-        shutil.copytree(crates / library / "src", work / "src")
+        shutil.copytree(crates / LIBRARY / "src", work / "src")
         source = (work / "src" / "lib.rt").read_text()
         (work / "src" / "lib.rt").unlink()
         (work / "src" / "main.rt").write_text(source + "\nfn main() {}\n")
         words = ["--lib", f"std={kit.std}"]
-        for crate in reached_by(library):
+        for crate in reached_by(LIBRARY):
             words += ["--lib", f"{crate}={crates / crate / 'src' / 'lib.rt'}"]
         run(kit.run_unproved, "--toolchain", work / "toolchain", work / "src" / "main.rt",
-            "--crate-name", library, *words, cwd=work)
+            "--crate-name", LIBRARY, *words, cwd=work)
 
         run(kit.clang, "-x", "ir", work / "module.bc", "-S", "-emit-llvm", "-O1",
             "-Xclang", "-disable-llvm-passes", "-o", work / "module.ll")
         names = [name for name, _ in EXPORTED.findall(source)]
         (work / "visible.ll").write_text(
-            visible((work / "module.ll").read_text(), library, names, prefix))
+            visible((work / "module.ll").read_text(), LIBRARY, names, prefix))
         own_flags = (work / "flags").read_text().split("\n")[:-1]
         given = own_flags[:own_flags.index("-x")] + own_flags[own_flags.index("module.o") + 1:]
         run(kit.clang, *given, "-fPIC", *flags, "-c", "-x", "ir", work / "visible.ll",
             "-o", work / "module.o")
 
         (work / "wrappers.c").write_text(wrappers(source, prefix))
-        renamed = [f"-D{name}={prefix}{name}" for name in (*names, *CALLS)]
-        objects = [work / "module.o"]
-        for c_file in (work / "wrappers.c", *bridges):
-            objects.append(work / (c_file.stem + ".o"))
-            run("gcc", "-std=c99", "-Wall", "-Wextra", "-Werror", "-O1", "-fPIC",
-                *(renamed if c_file in bridges else []), "-c", c_file, "-o", objects[-1])
-        run("gcc", "-r", "-nostdlib", "-o", target, *objects)
+        run("gcc", "-std=c99", "-Wall", "-Wextra", "-Werror", "-O1", "-fPIC", "-c",
+            work / "wrappers.c", "-o", work / "wrappers.o")
+        run("gcc", "-r", "-nostdlib", "-o", target, work / "module.o", work / "wrappers.o")
 
 
 def main():
