@@ -15,8 +15,7 @@ use Rattle.delivery.specs.Plan.{Plan, deemed, scheduled, order}
 use Rattle.delivery.specs.Delivery.{counted, unaccounted, partOf, lossOf, delivered, atExit}
 use Rattle.delivery.specs.Arrays.{planFrom, Deliverable}
 use Rattle.settlement.specs.Settlement.{setOff, afterSetOff, underdrawn, shortfall, remainder, blockOutput}
-use Rattle.settlement.specs.Arrays.{listsOf, Settleable}
-use Rattle.settlement.specs.declared.Lists.{Lists}
+use Rattle.settlement.specs.Arrays.{Lists, listsOf, Settleable}
 use Rattle.record.specs.Book.{Book}
 use Rattle.record.specs.Stored.{planOf, figures, stored}
 use Rattle.record.specs.Sound.{sound}

@@ -11,8 +11,7 @@ use Rattle.arrays.specs.Written.{pairs-same, list-table}
 use Rattle.delivery.specs.Plan.{Plan}
 use Rattle.delivery.specs.Delivery.{unaccounted, lossOf}
 use Rattle.settlement.specs.Settlement.{setOff, underdrawn, shortfall, remainder, blockLists, blockOutput}
-use Rattle.settlement.specs.Arrays.{listsOf}
-use Rattle.settlement.specs.declared.Lists.{Lists}
+use Rattle.settlement.specs.Arrays.{Lists, listsOf}
 
 -- the slice has the stated length
 pub record OutputRoom (o : List ℕ) (n m : ℕ) : Type 0 where

@@ -12,7 +12,7 @@ use Rattle.arrays.specs.Bounds.{Moderate, Room}
 use Rattle.record.specs.declared.Generators.{Generators}
 use Rattle.record.specs.declared.Consumers.{Consumers}
 use Rattle.record.specs.declared.Record.{Record}
-use Rattle.settlement.specs.declared.Lists.{Lists}
+use Rattle.settlement.specs.Arrays.{Lists}
 
 -- by generator: a where the kind is 0, else b
 unfoldable pub byKind : List ℕ → List ℕ → List ℕ → List ℕ

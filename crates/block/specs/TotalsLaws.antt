@@ -16,8 +16,7 @@ use Rattle.arrays.specs.Bounds.{mostFigure, Moderate, Room}
 use Rattle.delivery.specs.Plan.{Plan, deemed}
 use Rattle.delivery.specs.Delivery.{unaccounted, lossOf, delivered}
 use Rattle.settlement.specs.Settlement.{setOff, underdrawn, shortfall, remainder}
-use Rattle.settlement.specs.Arrays.{listsOf}
-use Rattle.settlement.specs.declared.Lists.{Lists}
+use Rattle.settlement.specs.Arrays.{Lists, listsOf}
 use Rattle.record.specs.Book.{Book}
 use Rattle.record.specs.Stored.{generatorAt, consumerAt, planOf, figures, storedGenerators, storedConsumers, stored}
 use Rattle.record.specs.Shape.{Shape, table-place, pairs-cell}

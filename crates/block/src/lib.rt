@@ -284,15 +284,32 @@ pub fn enter<'a>(
     let m = terms.consumers as usize;
     let entered = eight(entry);
     let left = sixteen(exit);
-    let x = settlement::settle_block(n, m, kind, kw, loss, rank, entered, left);
+    let mut lost = [0u64; 128];
+    let mut setoff = [0u64; 128];
+    let mut underdrawn = [0u64; 128];
+    let mut shortfall = [0u64; 128];
+    let x = settlement::settle_block(
+        n,
+        m,
+        kind,
+        kw,
+        loss,
+        rank,
+        entered,
+        left,
+        &mut lost,
+        &mut setoff,
+        &mut underdrawn,
+        &mut shortfall,
+    );
     let unaccounted = x.unaccounted;
     let remainder = x.remainder;
     write_lists(
         out,
-        &x.loss,
-        &x.setoff,
-        &x.underdrawn,
-        &x.shortfall,
+        &lost,
+        &setoff,
+        &underdrawn,
+        &shortfall,
         unaccounted,
         remainder,
         n,
@@ -309,13 +326,13 @@ pub fn enter<'a>(
         kind,
         injected,
         unaccounted,
-        &x.loss,
-        &x.setoff,
-        &x.underdrawn,
+        &lost,
+        &setoff,
+        &underdrawn,
         m,
     );
     let metered = wide16(left);
-    let taken = consumers_after(consumers, metered, &x.setoff, &x.shortfall, remainder, n);
+    let taken = consumers_after(consumers, metered, &setoff, &shortfall, remainder, n);
     Totals {
         counts: raised,
         generators: given,

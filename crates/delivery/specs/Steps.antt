@@ -12,7 +12,7 @@ use Rattle.lists.specs.Tables.{table}
 use Rattle.lists.specs.Pairs.{place, pairs}
 use Rattle.energy.specs.Energy.{quarterHour, lossOn}
 use Rattle.energy.specs.Limits.{mostGenerators, mostConsumers, mostCapacity, mostLoss, mostReading}
-use Rattle.delivery.specs.declared.Delivered.{Delivered}
+use Rattle.delivery.specs.Arrays.{Delivered}
 
 -- the rows f 0, …, f 7
 unfoldable pub rowsOf : (ℕ → ℕ → ℕ) → List (List ℕ)

@@ -1,6 +1,6 @@
 // Rules 1 to 4 of a block: what the entry reading of each generator delivers to each consumer.
 ghost use mathlib.Core.Path.{_≡_};
-ghost use mathlib.Core.List.{[]};
+ghost use mathlib.Core.List.{List, []};
 ghost use Prim.Native.Nat.{ℕ, _+_, _-_, _*_, _<_, _≤_};
 ghost use lib.ListN.{getD};
 ghost use Rattle.lists.specs.Sums.{sum};
@@ -10,20 +10,11 @@ ghost use Rattle.energy.specs.Energy.{lossOn};
 ghost use Rattle.energy.specs.Limits.{mostCapacity};
 ghost use Rattle.energy.specs.Share.{shared};
 ghost use Rattle.energy.specs.Requirements.{Portionable};
-ghost use Rattle.delivery.specs.Arrays.{planFrom, Deliverable, deliveredBy};
+ghost use Rattle.delivery.specs.Arrays.{planFrom, Deliverable, Blank, deliveredIn, deliveredBy};
 ghost use Rattle.delivery.specs.Steps.{rowsOf, rowAt, countedOf, gapOf, allFrom, Figures, Readings, Capacities, Exits};
 ghost use Rattle.delivery.specs.Filling.{ExitFilling};
 use energy::Kw;
 use energy::Wh;
-
-// By pair, 16 places a row: the loss, what is delivered, and how much less that is than what is scheduled at exit;
-// by generator: what does not count.
-pub struct Delivered {
-    pub loss: [u64; 128],
-    pub delivered: [u64; 128],
-    pub gap: [u64; 128],
-    pub unaccounted: [u64; 8],
-}
 
 fn kw_row(kw: &[u64; 128], g: usize) -> [u32; 16]
     requires { ⌜ (g < 8) × ((c : ℕ) → cell 8 16 (now kw) g c ≤ mostCapacity) ⌝ }
@@ -174,6 +165,7 @@ fn deliver_row(
     }
 }
 
+// The three lists are lent as zeros: lists made here would be copied into the result.
 fn deliver_rows(
     n: usize,
     m: usize,
@@ -181,37 +173,22 @@ fn deliver_rows(
     rows: &[[u32; 16]; 8],
     parts: &[[u32; 16]; 8],
     loss: &[u64; 128],
-    unaccounted: [u64; 8],
-) -> Delivered
-    requires { ⌜ Exits n m (place 8 kind) (rowAt (now rows)) (rowAt (now parts)) (cell 8 16 (now loss)) ⌝ }
-    ensures { λ r. ⌜ r ≡ allFrom (place 8 kind) (rowAt (now (rows .entry))) (rowAt (now (parts .entry))) (cell 8 16 (now (loss .entry))) unaccounted ⌝ }
+    lost: &mut [u64; 128],
+    arrived: &mut [u64; 128],
+    missing: &mut [u64; 128],
+)
+    requires { ⌜ Exits n m (place 8 kind) (rowAt (now rows)) (rowAt (now parts)) (cell 8 16 (now loss)) × (Blank (now lost) × (Blank (now arrived) × Blank (now missing))) ⌝ }
+    ensures { λ r. ⌜ ((u : List ℕ) → deliveredIn (now (lost .exit)) (now (arrived .exit)) (now (missing .exit)) u ≡ allFrom (place 8 kind) (rowAt (now (rows .entry))) (rowAt (now (parts .entry))) (cell 8 16 (now (loss .entry))) u) ⌝ }
 {
-    let mut lost = [0u64; 128];
-    let mut arrived = [0u64; 128];
-    let mut missing = [0u64; 128];
     let mut g: usize = 0;
     while g < n {
-        deliver_row(
-            m,
-            g,
-            kind,
-            rows,
-            parts,
-            loss,
-            &mut lost,
-            &mut arrived,
-            &mut missing,
-        );
+        deliver_row(m, g, kind, rows, parts, loss, lost, arrived, missing);
         g += 1;
-    }
-    Delivered {
-        loss: lost,
-        delivered: arrived,
-        gap: missing,
-        unaccounted,
     }
 }
 
+// By pair, 16 places a row: the loss, what is delivered, and how much less that is than what is scheduled at exit;
+// returned, by generator: what does not count.
 pub fn deliver(
     n: usize,
     m: usize,
@@ -219,13 +196,16 @@ pub fn deliver(
     kw: &[u64; 128],
     loss: &[u64; 128],
     entry: [u32; 8],
-) -> Delivered
-    requires { ⌜ Deliverable (planFrom n m kind (now kw) (now loss) []) (place 8 entry) ⌝ }
-    ensures { λ r. ⌜ r ≡ deliveredBy (planFrom n m kind (now (kw .entry)) (now (loss .entry)) []) (place 8 entry) ⌝ }
+    lost: &mut [u64; 128],
+    arrived: &mut [u64; 128],
+    missing: &mut [u64; 128],
+) -> [u64; 8]
+    requires { ⌜ Deliverable (planFrom n m kind (now kw) (now loss) []) (place 8 entry) × (Blank (now lost) × (Blank (now arrived) × Blank (now missing))) ⌝ }
+    ensures { λ r. ⌜ deliveredIn (now (lost .exit)) (now (arrived .exit)) (now (missing .exit)) r ≡ deliveredBy (planFrom n m kind (now (kw .entry)) (now (loss .entry)) []) (place 8 entry) ⌝ }
 {
     let rows = kw_rows(n, kw);
     let counted = counted_all(n, m, kind, &rows, entry);
-    let unaccounted = unaccounted_all(n, entry, counted);
     let parts = part_rows(n, counted, &rows);
-    deliver_rows(n, m, kind, &rows, &parts, loss, unaccounted)
+    deliver_rows(n, m, kind, &rows, &parts, loss, lost, arrived, missing);
+    unaccounted_all(n, entry, counted)
 }

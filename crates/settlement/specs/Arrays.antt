@@ -1,6 +1,7 @@
 -- The lists of a block as the code has them in arrays. Assumes nothing.
 use Prim.Native.Nat.{ℕ, _≤_}
 use mathlib.Core.Path.{_≡_}
+use mathlib.Core.List.{List}
 use Rattle.lists.specs.Tables.{table}
 use Rattle.lists.specs.Pairs.{pairs}
 use Rattle.energy.specs.Limits.{mostReading}
@@ -8,7 +9,20 @@ use Rattle.delivery.specs.Plan.{Plan}
 use Rattle.delivery.specs.Delivery.{unaccounted, lossOf}
 use Rattle.delivery.specs.Arrays.{Deliverable}
 use Rattle.settlement.specs.Settlement.{setOff, underdrawn, shortfall, remainder}
-use Rattle.settlement.specs.declared.Lists.{Lists}
+
+-- the lists of a block's output in the record's width: by pair, 8 rows of 16; by generator; by consumer
+pub record Lists : Type 0 where
+  pub loss : List ℕ
+  pub setoff : List ℕ
+  pub underdrawn : List ℕ
+  pub shortfall : List ℕ
+  pub unaccounted : List ℕ
+  pub remainder : List ℕ
+
+-- read from the arrays that the code leaves them in
+abbrev pub listsIn : (lost setoff underdrawn shortfall unaccounted remainder : List ℕ) → Lists
+listsIn lost setoff underdrawn shortfall unaccounted remainder =
+    record { loss = lost; setoff = setoff; underdrawn = underdrawn; shortfall = shortfall; unaccounted = unaccounted; remainder = remainder }
 
 unfoldable pub listsOf : Plan → (ℕ → ℕ) → (ℕ → ℕ) → Lists
 listsOf p E R =

@@ -10,9 +10,8 @@ use Rattle.order.specs.Settle.{given, kept, unmet}
 use Rattle.order.specs.Settling.{settled, settledBy, settled-table}
 use Rattle.order.specs.Arrays.{upto, Held}
 use Rattle.order.specs.declared.Settled.{Settled}
-use Rattle.delivery.specs.declared.Delivered.{Delivered}
+use Rattle.delivery.specs.Arrays.{Blank}
 use Rattle.settlement.specs.declared.Share.{Share}
-use Rattle.settlement.specs.declared.Lists.{Lists}
 use Rattle.arrays.specs.Columns.{ColumnPut, Columns, columns-start, columns-step}
 
 -- n generators; d is what is delivered and gap how much less that is than what is scheduled at exit, both by pair
@@ -56,47 +55,29 @@ module _ (n : ℕ) (rank d gap : ℕ → ℕ → ℕ) (c r : ℕ) (a : List ℕ)
       let f = in-turn (λ g. gap g c) (s .left) ys t eys et ∙ ap (λ (w : Settled). settledBy (turns n rank d gap c) (λ g. gap g c) (w .left)) e in
       λ i. record { setoff = e i .taken; underdrawn = e i .rest; shortfall = f i .taken; remainder = f i .left }
 
--- The lists after c consumers with the exit readings R: what rules 1 to 4 give, the columns and places of those consumers by the
--- rules above, and zeros in the others.
-module _ (n : ℕ) (rank : ℕ → ℕ → ℕ) (v : Delivered) (R : ℕ → ℕ) where
-  abbrev d : ℕ → ℕ → ℕ
-  d = cell 8 16 (v .delivered)
+-- The lists after c consumers with the exit readings R: the columns and places of those consumers by the rules above, and zeros
+-- in the others.
+module _ (n : ℕ) (rank d gap : ℕ → ℕ → ℕ) (R : ℕ → ℕ) where
+  pub record AllSettled (c : ℕ) (setoff underdrawn shortfall remainder : List ℕ) : Type 0 where
+    pub setoff-is : Columns (λ g x. takenOf n rank d gap x (R x) g) c setoff
+    pub underdrawn-is : Columns (λ g x. keptOf n rank d gap x (R x) g) c underdrawn
+    pub shortfall-is : Columns (λ g x. shortOf n rank d gap x (R x) g) c shortfall
+    pub remainder-is : Filling 16 (λ x. remainsOf n rank d gap x (R x)) (replicate 16 0) c remainder
 
-  abbrev gap : ℕ → ℕ → ℕ
-  gap = cell 8 16 (v .gap)
+  pub all-start : {s u f : List ℕ} → Blank s → Blank u → Blank f → AllSettled 0 s u f (replicate 16 0)
+  all-start {s} {u} {f} x y z =
+      record { setoff-is = rw x columns-start; underdrawn-is = rw y columns-start; shortfall-is = rw z columns-start; remainder-is = fill-start refl }
 
-  pub record AllSettled (c : ℕ) (out : Lists) : Type 0 where
-    pub loss : out .loss ≡ v .loss
-    pub setoff : Columns (λ g x. takenOf n rank d gap x (R x) g) c (out .setoff)
-    pub underdrawn : Columns (λ g x. keptOf n rank d gap x (R x) g) c (out .underdrawn)
-    pub shortfall : Columns (λ g x. shortOf n rank d gap x (R x) g) c (out .shortfall)
-    pub unaccounted : out .unaccounted ≡ v .unaccounted
-    pub remainder : Filling 16 (λ x. remainsOf n rank d gap x (R x)) (replicate 16 0) c (out .remainder)
-
-  pub all-start :
-      AllSettled 0 (record { loss = v .loss; setoff = replicate 128 0; underdrawn = replicate 128 0; shortfall = replicate 128 0; unaccounted = v .unaccounted; remainder = replicate 16 0 })
-  all-start =
-      record {
-        loss = refl;
-        setoff = columns-start;
-        underdrawn = columns-start;
-        shortfall = columns-start;
-        unaccounted = refl;
-        remainder = fill-start refl;
-      }
-
-  pub all-step : {c r : ℕ} {out : Lists} {h : Share} {s u f : List ℕ} → AllSettled c out → c < 16 → r ≡ R c →
+  pub all-step : {c r : ℕ} {s u f s′ u′ f′ rest : List ℕ} {h : Share} → AllSettled c s u f rest → c < 16 → r ≡ R c →
       h ≡ shareOf n rank d gap c r →
-      ColumnPut (out .setoff) c (h .setoff) 8 s → ColumnPut (out .underdrawn) c (h .underdrawn) 8 u → ColumnPut (out .shortfall) c (h .shortfall) 8 f →
-      AllSettled (c + 1) (record { loss = out .loss; setoff = s; underdrawn = u; shortfall = f; unaccounted = out .unaccounted; remainder = set (out .remainder) c (h .remainder) })
+      ColumnPut s c (h .setoff) 8 s′ → ColumnPut u c (h .underdrawn) 8 u′ → ColumnPut f c (h .shortfall) 8 f′ →
+      AllSettled (c + 1) s′ u′ f′ (set rest c (h .remainder))
   unfolding shareOf
-  all-step {c} {r} {out} {h} {s} {u} {f} i l q e x y z =
+  all-step i l q e x y z =
       let e′ = rw q at e in
       record {
-        loss = i .loss;
-        setoff = columns-step (i .setoff) l x (ap (λ (w : Share). w .setoff) e′);
-        underdrawn = columns-step (i .underdrawn) l y (ap (λ (w : Share). w .underdrawn) e′);
-        shortfall = columns-step (i .shortfall) l z (ap (λ (w : Share). w .shortfall) e′);
-        unaccounted = i .unaccounted;
-        remainder = fill-step (i .remainder) l (ap (λ (w : Share). w .remainder) e′);
+        setoff-is = columns-step (i .setoff-is) l x (ap (λ (w : Share). w .setoff) e′);
+        underdrawn-is = columns-step (i .underdrawn-is) l y (ap (λ (w : Share). w .underdrawn) e′);
+        shortfall-is = columns-step (i .shortfall-is) l z (ap (λ (w : Share). w .shortfall) e′);
+        remainder-is = fill-step (i .remainder-is) l (ap (λ (w : Share). w .remainder) e′);
       }

@@ -9,14 +9,12 @@ use Rattle.lists.specs.Tables.{table, Filling}
 use Rattle.lists.specs.Pairs.{cell, pairs}
 use Rattle.lists.specs.PairsLaws.{cell-pairs}
 use Rattle.order.specs.SettleLaws.{kept-is}
-use Rattle.delivery.specs.declared.Delivered.{Delivered}
 use Rattle.delivery.specs.Plan.{Plan, deemed, scheduled, order}
 use Rattle.delivery.specs.Delivery.{counted, unaccounted, partOf, lossOf, delivered, atExit}
 use Rattle.delivery.specs.Filling.{fill-rest}
-use Rattle.delivery.specs.Arrays.{planFrom, Deliverable, deliveredBy}
-use Rattle.settlement.specs.declared.Lists.{Lists}
+use Rattle.delivery.specs.Arrays.{planFrom, Deliverable, Delivered, deliveredBy}
 use Rattle.settlement.specs.Settlement.{setOff, afterSetOff, underdrawn, shortfall, remainder}
-use Rattle.settlement.specs.Arrays.{listsOf, Settleable}
+use Rattle.settlement.specs.Arrays.{listsIn, listsOf, Settleable}
 use Rattle.settlement.specs.Beyond.{delivered-beyond, gap-beyond, setOff-beyond, underdrawn-beyond, shortfall-beyond, remainder-beyond}
 use Rattle.arrays.specs.Columns.{Columns, columns-pairs}
 use Rattle.settlement.specs.Consumers.{turns, takenOf, keptOf, leftOf, shortOf, remainsOf, AllSettled}
@@ -81,15 +79,17 @@ module _ (p : Plan) (E R : ℕ → ℕ) (h : Settleable p E R) where
   unfolding remainder afterSetOff remainsOf leftOf turns order
   remainder-is r a = fill-rest 0 a (λ x l b. remainder-beyond p E R h x l)
 
-  pub lists-are : (v : Delivered) → v ≡ deliveredBy p E → (out : Lists) → AllSettled (p .G) (p .rank) v R (p .C) out → out ≡ listsOf p E R
+  pub lists-are : (v : Delivered) → v ≡ deliveredBy p E → {s u f r : List ℕ} →
+      AllSettled (p .G) (p .rank) (cell 8 16 (v .delivered)) (cell 8 16 (v .gap)) R (p .C) s u f r →
+      listsIn (v .loss) s u f (v .unaccounted) r ≡ listsOf p E R
   unfolding listsOf deliveredBy
-  lists-are v e out a =
+  lists-are v e {s} {u} {f} {r} a =
       let ed = ap (λ (w : Delivered). cell 8 16 (w .delivered)) e ∙ delivered-read in
       let eg = ap (λ (w : Delivered). cell 8 16 (w .gap)) e ∙ gap-read in
-      let el = a .loss ∙ ap (λ (w : Delivered). w .loss) e in
-      let es = setoff-is (out .setoff) (rw (ed, eg) at (a .setoff)) in
-      let eu = underdrawn-is (out .underdrawn) (rw (ed, eg) at (a .underdrawn)) in
-      let ef = shortfall-is (out .shortfall) (rw (ed, eg) at (a .shortfall)) in
-      let en = a .unaccounted ∙ ap (λ (w : Delivered). w .unaccounted) e in
-      let er = remainder-is (out .remainder) (rw (ed, eg) at (a .remainder)) in
+      let el = ap (λ (w : Delivered). w .loss) e in
+      let es = setoff-is s (rw (ed, eg) at (a .setoff-is)) in
+      let eu = underdrawn-is u (rw (ed, eg) at (a .underdrawn-is)) in
+      let ef = shortfall-is f (rw (ed, eg) at (a .shortfall-is)) in
+      let en = ap (λ (w : Delivered). w .unaccounted) e in
+      let er = remainder-is r (rw (ed, eg) at (a .remainder-is)) in
       λ i. record { loss = el i; setoff = es i; underdrawn = eu i; shortfall = ef i; unaccounted = en i; remainder = er i }

@@ -4,17 +4,12 @@ ghost use Prim.Native.Nat.{_<_, _≤_};
 ghost use lib.ListN.{length};
 ghost use Rattle.lists.specs.Tables.{table};
 ghost use Rattle.lists.specs.Pairs.{place, cell};
-ghost use Rattle.delivery.specs.Arrays.{planFrom};
-ghost use Rattle.settlement.specs.Arrays.{listsOf, Settleable};
+ghost use Rattle.delivery.specs.Arrays.{planFrom, Blank};
+ghost use Rattle.settlement.specs.Arrays.{listsIn, listsOf, Settleable};
 ghost use Rattle.settlement.specs.Consumers.{shareOf, AllSettled};
-use delivery::Delivered;
 
-// The lists of a block's output in the record's width: by pair, 16 places a row; by generator; by consumer.
-pub struct Lists {
-    pub loss: [u64; 128],
-    pub setoff: [u64; 128],
-    pub underdrawn: [u64; 128],
-    pub shortfall: [u64; 128],
+// What a block leaves by generator and by consumer, in the record's width.
+pub struct Leftover {
     pub unaccounted: [u64; 8],
     pub remainder: [u64; 16],
 }
@@ -55,45 +50,38 @@ fn settle_one<'a>(
     }
 }
 
-// The columns are written in place: lists made apart would be copied into the result.
-fn settle_all(n: usize, m: usize, rank: &[u64; 128], figures: Delivered, exit: [u32; 16]) -> Lists
-    requires { ⌜ (n ≤ 8) × (m ≤ 16) ⌝ }
-    ensures { λ r. ⌜ AllSettled n (cell 8 16 (now (rank .entry))) figures (place 16 exit) m r ⌝ }
+// The columns are written in place: lists made here would be copied into the result.
+fn settle_all<'a>(
+    n: usize,
+    m: usize,
+    rank: &[u64; 128],
+    delivered: &'a [u64; 128],
+    gap: &'a [u64; 128],
+    exit: [u32; 16],
+    setoff: &mut [u64; 128],
+    underdrawn: &mut [u64; 128],
+    shortfall: &mut [u64; 128],
+) -> [u64; 16]
+    requires { ⌜ ((n ≤ 8) × (m ≤ 16)) × (Blank (now setoff) × (Blank (now underdrawn) × Blank (now shortfall))) ⌝ }
+    ensures { λ r. ⌜ AllSettled n (cell 8 16 (now (rank .entry))) (cell 8 16 (now (delivered .entry))) (cell 8 16 (now (gap .entry))) (place 16 exit) m (now (setoff .exit)) (now (underdrawn .exit)) (now (shortfall .exit)) r ⌝ }
 {
-    let loss = figures.loss;
-    let unaccounted = figures.unaccounted;
-    let zeros = [0u64; 128];
-    let remainder = [0u64; 16];
-    let mut out = Lists {
-        loss,
-        setoff: zeros,
-        underdrawn: zeros,
-        shortfall: zeros,
-        unaccounted,
-        remainder,
-    };
+    let mut remainder = [0u64; 16];
     let mut c: usize = 0;
     while c < m {
-        let share = settle_one(
-            n,
-            rank,
-            &figures.delivered,
-            &figures.gap,
-            c,
-            lists::wide(exit[c]),
-        );
+        let share = settle_one(n, rank, delivered, gap, c, lists::wide(exit[c]));
         let taken = share.setoff;
-        arrays::put_column(&mut out.setoff, c, taken);
+        arrays::put_column(setoff, c, taken);
         let kept = share.underdrawn;
-        arrays::put_column(&mut out.underdrawn, c, kept);
+        arrays::put_column(underdrawn, c, kept);
         let short = share.shortfall;
-        arrays::put_column(&mut out.shortfall, c, short);
-        out.remainder[c] = share.remainder;
+        arrays::put_column(shortfall, c, short);
+        remainder[c] = share.remainder;
         c += 1;
     }
-    out
+    remainder
 }
 
+// The lists of a block's output by pair, 16 places a row, are lent as zeros and filled.
 pub fn settle_block<'a>(
     n: usize,
     m: usize,
@@ -103,10 +91,40 @@ pub fn settle_block<'a>(
     rank: &'a [u64; 128],
     entry: [u32; 8],
     exit: [u32; 16],
-) -> Lists
-    requires { ⌜ Settleable (planFrom n m kind (now kw) (now loss) (now rank)) (place 8 entry) (place 16 exit) ⌝ }
-    ensures { λ r. ⌜ r ≡ listsOf (planFrom n m kind (now (kw .entry)) (now (loss .entry)) (now (rank .entry))) (place 8 entry) (place 16 exit) ⌝ }
+    lost: &mut [u64; 128],
+    setoff: &mut [u64; 128],
+    underdrawn: &mut [u64; 128],
+    shortfall: &mut [u64; 128],
+) -> Leftover
+    requires { ⌜ Settleable (planFrom n m kind (now kw) (now loss) (now rank)) (place 8 entry) (place 16 exit) × (Blank (now lost) × (Blank (now setoff) × (Blank (now underdrawn) × Blank (now shortfall)))) ⌝ }
+    ensures { λ r. ⌜ listsIn (now (lost .exit)) (now (setoff .exit)) (now (underdrawn .exit)) (now (shortfall .exit)) (r .unaccounted) (r .remainder) ≡ listsOf (planFrom n m kind (now (kw .entry)) (now (loss .entry)) (now (rank .entry))) (place 8 entry) (place 16 exit) ⌝ }
 {
-    let figures = delivery::deliver(n, m, kind, kw, loss, entry);
-    settle_all(n, m, rank, figures, exit)
+    let mut arrived = [0u64; 128];
+    let mut missing = [0u64; 128];
+    let unaccounted = delivery::deliver(
+        n,
+        m,
+        kind,
+        kw,
+        loss,
+        entry,
+        lost,
+        &mut arrived,
+        &mut missing,
+    );
+    let remainder = settle_all(
+        n,
+        m,
+        rank,
+        &arrived,
+        &missing,
+        exit,
+        setoff,
+        underdrawn,
+        shortfall,
+    );
+    Leftover {
+        unaccounted,
+        remainder,
+    }
 }

@@ -1,7 +1,7 @@
 -- `block::enter` meets its contract: the record and the output are those of the rules.
 use Rattle.block.specs.Accepted.{generators-few, consumers-few, entry-size, exit-size, output-size, settleable, record-room, record-after, output-after}
 use Rattle.block.specs.Output.{listsWritten}
-use Rattle.block.specs.Totals.{recordAfterBlock, RecordRoom}
+use Rattle.block.specs.Totals.{recordAfterBlock}
 use Rattle.record.specs.Shape.{Shape}
 use Rattle.record.specs.Stored.{recordFrom}
 use Rattle.record.specs.declared.Agreed.{Agreed}
@@ -12,7 +12,7 @@ use Rattle.record.specs.declared.Terms.{Terms}
 use Prim.Native.Nat.{ℕ}
 use mathlib.Core.List.{List}
 use lib.ListN.{length-map}
-use mathlib.Core.Path.{_≡_, _∙_}
+use mathlib.Core.Path.{_≡_, refl, _∙_}
 use native.Mathlib.Omega.{arith}
 use borrow.Author.Needs.{needs}
 use Rattle.block.proofs.enter.Statement.{statement}
@@ -25,36 +25,31 @@ sixteen-requires : tie.Need-sixteen-requires
 sixteen-requires c κs = let s = c .before .before .before .before .before in omega (arith, exit-size _ _ _ _ (s .pre .1), consumers-few _ _ _ _ (s .pre .1))
 
 settle-block-requires : tie.Need-settle-block-requires
-settle-block-requires c κs = rw (c .before .eight .ensures, c .sixteen .ensures) (settleable _ _ _ _ (c .before .before .before .before .before .before .pre .1))
+settle-block-requires c κs = (rw (c .before .before .before .before .before .eight .ensures, c .before .before .before .before .sixteen .ensures) (settleable _ _ _ _ (c .before .before .before .before .before .before .before .before .before .before .pre .1)), (refl, (refl, (refl, refl))))
 
 write-lists-requires : tie.Need-write-lists-requires
-write-lists-requires c κs = let z = c .before .before .before .before .before .before .before .before .before .before .before .before .before .before .before .pre .1 in record { size = output-size _ _ _ _ z; rows = generators-few _ _ _ _ z; columns = consumers-few _ _ _ _ z }
+write-lists-requires c κs = let z = c .before .before .before .before .before .before .before .before .before .before .before .before .before .before .before .before .before .before .pre .1 in record { size = output-size _ _ _ _ z; rows = generators-few _ _ _ _ z; columns = consumers-few _ _ _ _ z }
 
--- what the totals rest on, once the lists are settled
-room : (c : tie.After-settle-block) → let a = c .before .before .before .before .before .before .before .args in
-    RecordRoom (recordFrom (a .terms) (a .counts) (a .agreed) (a .link .now) (a .loss .now) (a .kw .now) (a .rank .now) (a .generators) (a .consumers)) (c .before .before .eight .result) (c .before .sixteen .result) (c .settle-block .result)
-room c = record-room _ _ _ _ (c .before .before .before .before .before .before .before .pre .1) _ _ _ (c .before .before .eight .ensures) (c .before .sixteen .ensures) (c .settle-block .ensures)
+add-t41 : tie.Need-add-t41
+add-t41 c = let p = record-room _ _ _ _ (c .before .before .before .before .before .before .before .before .before .before .before .before .before .before .before .before .before .before .before .before .before .before .pre .1) _ _ _ (c .before .before .before .before .before .before .before .before .before .before .before .before .before .before .before .before .before .eight .ensures) (c .before .before .before .before .before .before .before .before .before .before .before .before .before .before .before .before .sixteen .ensures) (c .before .before .before .before .before .before .before .before .before .before .before .settle-block .ensures) in omega (arith, p .blocks-few)
 
-add-t34 : tie.Need-add-t34
-add-t34 c = omega (arith, room (c .before .before .before .before .before .before .before .before .before .before .before .before) .blocks-few)
-
-add-t35 : tie.Need-add-t35
-add-t35 c = omega (arith, room (c .before .before .before .before .before .before .before .before .before .before .before .before .before) .month-few)
+add-t42 : tie.Need-add-t42
+add-t42 c = let p = record-room _ _ _ _ (c .before .before .before .before .before .before .before .before .before .before .before .before .before .before .before .before .before .before .before .before .before .before .before .pre .1) _ _ _ (c .before .before .before .before .before .before .before .before .before .before .before .before .before .before .before .before .before .before .eight .ensures) (c .before .before .before .before .before .before .before .before .before .before .before .before .before .before .before .before .before .sixteen .ensures) (c .before .before .before .before .before .before .before .before .before .before .before .before .settle-block .ensures) in omega (arith, p .month-few)
 
 wide8-requires : tie.Need-wide8-requires
 wide8-requires c κs = search needs
 
 generators-after-requires : tie.Need-generators-after-requires
-generators-after-requires c κs = let p = room (c .before .before .before .before .before .before .before .before .before .before .before .before .before .before .before .before .before .before) in (p .consumers-few, rw (c .before .before .before .before .wide8 .ensures) (p .generators-room))
+generators-after-requires c κs = let p = record-room _ _ _ _ (c .before .before .before .before .before .before .before .before .before .before .before .before .before .before .before .before .before .before .before .before .before .before .before .before .before .before .before .pre .1) _ _ _ (c .before .before .before .before .before .before .before .before .before .before .before .before .before .before .before .before .before .before .before .before .before .before .eight .ensures) (c .before .before .before .before .before .before .before .before .before .before .before .before .before .before .before .before .before .before .before .before .before .sixteen .ensures) (c .before .before .before .before .before .before .before .before .before .before .before .before .before .before .before .before .settle-block .ensures) in (p .consumers-few, rw (c .before .before .before .wide8 .ensures) (p .generators-room))
 
 wide16-requires : tie.Need-wide16-requires
 wide16-requires c κs = search needs
 
 consumers-after-requires : tie.Need-consumers-after-requires
-consumers-after-requires c κs = let p = room (c .before .before .before .before .before .before .before .before .before .before .before .before .before .before .before .before .before .before .before .before .before .before .before) in (p .generators-few, rw (c .before .before .before .wide16 .ensures) (p .consumers-room))
+consumers-after-requires c κs = let p = record-room _ _ _ _ (c .before .before .before .before .before .before .before .before .before .before .before .before .before .before .before .before .before .before .before .before .before .before .before .before .before .before .before .before .before .before .before .pre .1) _ _ _ (c .before .before .before .before .before .before .before .before .before .before .before .before .before .before .before .before .before .before .before .before .before .before .before .before .before .before .eight .ensures) (c .before .before .before .before .before .before .before .before .before .before .before .before .before .before .before .before .before .before .before .before .before .before .before .before .before .sixteen .ensures) (c .before .before .before .before .before .before .before .before .before .before .before .before .before .before .before .before .before .before .before .before .settle-block .ensures) in (p .generators-few, rw (c .before .before .wide16 .ensures) (p .consumers-room))
 
 same-length : tie.Need-same-length
-same-length c = c .before .before .before .before .before .before .before .before .before .before .before .before .before .before .before .write-lists .kept .0
+same-length c = c .before .before .before .before .before .before .before .before .before .before .before .before .before .write-lists .kept .0
 
 -- a struct by value has the lists of its type
 shape : (c : tie.Start) → let a = c .args in Shape (recordFrom (a .terms) (a .counts) (a .agreed) (a .link .now) (a .loss .now) (a .kw .now) (a .rank .now) (a .generators) (a .consumers))
@@ -100,16 +95,16 @@ same-parts terms counts agreed link loss kw rank g o = λ i. recordFrom terms co
 returns : tie.Need-returns
 unfolding listsWritten recordAfterBlock
 returns c =
-    let start = c .before .before .before .before .before .before .before .before .before .before .before .before .before .before .before .before .before .before .before .before .before .before .before .before .before .before .before .before .before .before .before in
-    let settled = c .before .before .before .before .before .before .before .before .before .before .before .before .before .before .before .before .before .before .before .before .before .before .before .before in
-    let e = settled .before .before .eight .ensures in
-    let f = settled .before .sixteen .ensures in
+    let start = c .before .before .before .before .before .before .before .before .before .before .before .before .before .before .before .before .before .before .before .before .before .before .before .before .before .before .before .before .before .before .before .before in
+    let settled = c .before .before .before .before .before .before .before .before .before .before .before .before .before .before .before .before .before .before .before .before .before in
+    let e = settled .before .before .before .before .before .before .eight .ensures in
+    let f = settled .before .before .before .before .before .sixteen .ensures in
     let x = settled .settle-block .ensures in
-    let generators = rw (c .before .before .before .before .before .before .before .before .before .before .wide8 .ensures) at (c .before .before .before .before .before .generators-after .ensures) in
-    let consumers = rw (c .before .before .before .before .wide16 .ensures) at (c .consumers-after .ensures) in
+    let generators = rw (c .before .before .before .before .before .before .before .before .wide8 .ensures) at (c .before .before .before .before .generators-after .ensures) in
+    let consumers = rw (c .before .before .before .wide16 .ensures) at (c .consumers-after .ensures) in
     record {
       record-is = same-parts _ _ _ _ _ _ _ generators consumers ∙ record-after _ _ _ _ (start .pre .1) _ _ _ e f x (shape start);
-      output-is = c .before .before .before .before .before .before .before .before .before .before .before .before .before .before .before .write-lists .ensures ∙ output-after _ _ _ _ (start .pre .1) _ _ _ e f x;
+      output-is = c .before .before .before .before .before .before .before .before .before .before .before .before .before .write-lists .ensures ∙ output-after _ _ _ _ (start .pre .1) _ _ _ e f x;
     }
 
 pub enter-spec : {M : Type 1} → statement M
@@ -120,8 +115,8 @@ enter-spec =
     sixteen-requires
     settle-block-requires
     write-lists-requires
-    add-t34
-    add-t35
+    add-t41
+    add-t42
     wide8-requires
     generators-after-requires
     wide16-requires

@@ -22,7 +22,7 @@ abbrev start-of-counted : tie.After-counted-all → tie.Start
 start-of-counted c = c .before .before .before
 
 abbrev counted-of-parts : tie.After-part-rows → tie.After-counted-all
-counted-of-parts c = c .before .before .before
+counted-of-parts c = c .before .before
 
 abbrev start-of-parts : tie.After-part-rows → tie.Start
 start-of-parts c = start-of-counted (counted-of-parts c)
@@ -31,55 +31,55 @@ counted-here : (c : tie.After-counted-all) → c .counted-all .result ≡ table 
 unfolding planFrom
 counted-here c =
     let s = start-of-counted c in
-    counted-is (plan s) (entries s) (s .pre) (c .before .before .kw-rows .ensures) (c .counted-all .ensures)
+    counted-is (plan s) (entries s) (s .pre .0) (c .before .before .kw-rows .ensures) (c .counted-all .ensures)
 
 parts-here : (c : tie.After-part-rows) → c .part-rows .result ≡ rowsOf (partAt (plan (start-of-parts c)) (entries (start-of-parts c)))
 unfolding planFrom
 parts-here c =
     let s = start-of-parts c in
     let k = counted-of-parts c in
-    parts-are (plan s) (entries s) (s .pre) (k .before .before .kw-rows .ensures) (counted-here k) (c .part-rows .ensures)
+    parts-are (plan s) (entries s) (s .pre .0) (k .before .before .kw-rows .ensures) (counted-here k) (c .part-rows .ensures)
 
 kw-rows-requires : tie.Need-kw-rows-requires
 unfolding planFrom
-kw-rows-requires c κs = rows-ready (plan c) (entries c) (c .pre)
+kw-rows-requires c κs = rows-ready (plan c) (entries c) (c .pre .0)
 
 counted-all-requires : tie.Need-counted-all-requires
 unfolding planFrom
 counted-all-requires c κs =
     let s = c .before .before in
-    counted-ready (plan s) (entries s) (s .pre) (c .before .kw-rows .ensures)
-
-unaccounted-all-requires : tie.Need-unaccounted-all-requires
-unfolding planFrom
-unaccounted-all-requires c κs =
-    let s = start-of-counted c in
-    unaccounted-ready (plan s) (entries s) (s .pre) (counted-here c)
+    counted-ready (plan s) (entries s) (s .pre .0) (c .before .kw-rows .ensures)
 
 part-rows-requires : tie.Need-part-rows-requires
 unfolding planFrom
 part-rows-requires c κs =
-    let k = c .before .before in
+    let k = c .before in
     let s = start-of-counted k in
-    parts-ready (plan s) (entries s) (s .pre) (counted-here k)
+    parts-ready (plan s) (entries s) (s .pre .0) (counted-here k)
 
 deliver-rows-requires : tie.Need-deliver-rows-requires
 unfolding planFrom
 deliver-rows-requires c κs =
-    let q = c .before .before in
+    let q = c .before .before .before .before .before in
     let s = start-of-parts q in
-    exits-ready (plan s) (entries s) (s .pre) (counted-of-parts q .before .before .kw-rows .ensures) (parts-here q)
+    (exits-ready (plan s) (entries s) (s .pre .0) (counted-of-parts q .before .before .kw-rows .ensures) (parts-here q), s .pre .1)
+
+unaccounted-all-requires : tie.Need-unaccounted-all-requires
+unfolding planFrom
+unaccounted-all-requires c κs =
+    let k = c .before .before .before .before .before .before .before .before in
+    let s = start-of-counted k in
+    unaccounted-ready (plan s) (entries s) (s .pre .0) (counted-here k)
 
 returns : tie.Need-returns
 unfolding planFrom
 returns c =
-    let q = c .before .before .before in
+    let q = c .before .before .before .before .before .before .before in
     let s = start-of-parts q in
-    let u = q .before .before in
     let k = counted-of-parts q in
-    let uncounted = unaccounted-is (plan s) (entries s) (s .pre) (counted-here k) (u .unaccounted-all .ensures) in
-    c .deliver-rows .ensures ∙
-    delivered-is (plan s) (entries s) (s .pre) (k .before .before .kw-rows .ensures) (parts-here q) uncounted
+    let uncounted = unaccounted-is (plan s) (entries s) (s .pre .0) (counted-here k) (c .unaccounted-all .ensures) in
+    c .before .deliver-rows .ensures _ ∙
+    delivered-is (plan s) (entries s) (s .pre .0) (k .before .before .kw-rows .ensures) (parts-here q) uncounted
 
 pub deliver-spec : {M : Type 1} → statement M
 deliver-spec =
@@ -87,7 +87,7 @@ deliver-spec =
     (tie.spec
     kw-rows-requires
     counted-all-requires
-    unaccounted-all-requires
     part-rows-requires
     deliver-rows-requires
+    unaccounted-all-requires
     returns)

@@ -10,18 +10,18 @@ use Rattle.delivery.proofs.deliver_rows.Statement.{statement}
 use Rattle.delivery.proofs.deliver_rows.Tie as tie
 
 abbrev Inv-loop : tie.InvT-loop
-Inv-loop n m kind rows parts loss unaccounted lost₀ arrived₀ missing₀ g₀ lost arrived missing g = (g ≤ n) × ExitFilling (place 8 kind) (rowAt rows) (rowAt parts) (cell 8 16 loss) (g * 16) lost arrived missing
+Inv-loop n m kind rows parts loss lost₀ arrived₀ missing₀ g₀ lost arrived missing g = (g ≤ n) × ExitFilling (place 8 kind) (rowAt rows) (rowAt parts) (cell 8 16 loss) (g * 16) lost arrived missing
 
 abbrev μ-loop : tie.MeasureT-loop
-μ-loop n m kind rows parts loss unaccounted lost₀ arrived₀ missing₀ g₀ lost arrived missing g = n - g
+μ-loop n m kind rows parts loss lost₀ arrived₀ missing₀ g₀ lost arrived missing g = n - g
 
 loop-holds : tie.Need-loop-holds Inv-loop μ-loop
-loop-holds c = (search needs, record { lost-is = pair-start; delivered-is = pair-start; gap-is = pair-start })
+loop-holds c = let z = c .pre .1 in (search needs, record { lost-is = rw (z .0) pair-start; delivered-is = rw (z .1 .0) pair-start; gap-is = rw (z .1 .1) pair-start })
 
 deliver-row-requires : tie.Need-deliver-row-requires Inv-loop μ-loop
 deliver-row-requires c κs =
     let s = c .before .before .before .before .before in
-    (omega (arith, s .pre .rows), (exits-of-8 (s .pre), c .before .before .before .before .loop .inv .1))
+    (omega (arith, s .pre .0 .rows), (exits-of-8 (s .pre .0), c .before .before .before .before .loop .inv .1))
 
 add-g : tie.Need-add-g Inv-loop μ-loop
 add-g c = search needs
@@ -37,13 +37,13 @@ unfolding allFrom
 returns c =
     let s = c .before .before in
     let l = c .before .loop in
-    let h = exit-done (s .pre) (omega arith) (omega (arith, s .pre .rows)) (l .inv .1) in
-    λ i.
+    let h = exit-done (s .pre .0) (omega arith) (omega (arith, s .pre .0 .rows)) (l .inv .1) in
+    λ u i.
     record {
       loss = pair-done (h .lost-is) (le-refl 128) i;
       delivered = pair-done (h .delivered-is) (le-refl 128) i;
       gap = pair-done (h .gap-is) (le-refl 128) i;
-      unaccounted = s .args .unaccounted;
+      unaccounted = u;
     }
 
 pub deliver-rows-spec : {M : Type 1} → statement M

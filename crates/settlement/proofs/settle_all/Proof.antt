@@ -10,13 +10,13 @@ use Rattle.settlement.proofs.settle_all.Statement.{statement}
 use Rattle.settlement.proofs.settle_all.Tie as tie
 
 abbrev Inv-loop : tie.InvT-loop
-Inv-loop n m rank figures exit out₀ c₀ out c = AllSettled n (cell 8 16 rank) figures (place 16 exit) c out × (c ≤ m)
+Inv-loop n m rank delivered gap s₀ u₀ f₀ exit r₀ c₀ s u f r c = AllSettled n (cell 8 16 rank) (cell 8 16 delivered) (cell 8 16 gap) (place 16 exit) c s u f r × (c ≤ m)
 
 abbrev μ-loop : tie.MeasureT-loop
-μ-loop n m rank figures exit out₀ c₀ out c = m - c
+μ-loop n m rank delivered gap s₀ u₀ f₀ exit r₀ c₀ s u f r c = m - c
 
 loop-holds : tie.Need-loop-holds Inv-loop μ-loop
-loop-holds c = (all-start _ _ _ _, search needs)
+loop-holds c = let z = c .pre .1 in (all-start _ _ _ _ _ (z .0) (z .1 .0) (z .1 .1), search needs)
 
 mul-wide : tie.Need-mul-wide Inv-loop μ-loop
 mul-wide c = search needs
@@ -39,11 +39,11 @@ put-column-requires-2 c κs = search needs
 put-column-requires-3 : tie.Need-put-column-requires-3 Inv-loop μ-loop
 put-column-requires-3 c κs = search needs
 
-mul-out : tie.Need-mul-out Inv-loop μ-loop
-mul-out c = search needs
+mul-remainder : tie.Need-mul-remainder Inv-loop μ-loop
+mul-remainder c = search needs
 
-element-write-out : tie.Need-element-write-out Inv-loop μ-loop
-element-write-out c = search needs
+array-write-remainder : tie.Need-array-write-remainder Inv-loop μ-loop
+array-write-remainder c = search needs
 
 add-c : tie.Need-add-c Inv-loop μ-loop
 add-c c = search needs
@@ -56,18 +56,18 @@ loop-again c =
     let second = c .before .before .before in
     let first = second .before .before .before in
     let one = first .before .before .before in
-    let turn = one .before .before .before .before .before in
+    let turn = one .before .before in
     let l = turn .before .loop in
-    let b : l .c < 16 = omega (arith, turn .loop-test .taken, turn .before .before .before .before .pre .1) in
+    let b : l .c < 16 = omega (arith, turn .loop-test .taken, turn .before .before .pre .0 .1) in
     let read = one .before .wide .ensures ∙ sym (place-in 16 _ _ b) in (
-      all-step _ _ _ _ (l .inv .0) b read (one .«settle-one» .ensures) (first .put-column .ensures) (second .put-column2 .ensures) (c .put-column3 .ensures),
+      all-step _ _ _ _ _ (l .inv .0) b read (one .«settle-one» .ensures) (first .put-column .ensures) (second .put-column2 .ensures) (c .put-column3 .ensures),
       omega (arith, turn .loop-test .taken),
     )
 
 returns : tie.Need-returns Inv-loop μ-loop
 returns c =
     let l = c .before .loop in
-    let e : l .c ≡ c .before .before .before .before .args .m = omega arith in
+    let e : l .c ≡ c .before .before .args .m = omega arith in
     rw e at (l .inv .0)
 
 pub settle-all-spec : {M : Type 1} → statement M
@@ -84,8 +84,8 @@ settle-all-spec =
     put-column-requires
     put-column-requires-2
     put-column-requires-3
-    mul-out
-    element-write-out
+    mul-remainder
+    array-write-remainder
     add-c
     loop-less
     loop-again
