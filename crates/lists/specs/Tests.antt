@@ -60,17 +60,6 @@ all-plus m zero p = rw add-zero (last (all m p))
     last false = refl
 all-plus m (suc n) p = rw (add-suc, all-plus m n p) (and-assoc (all m p) (all n (λ i. p (m + i))) (p (m + n)))
 
-pub all-and : (n : ℕ) (p q : ℕ → Bool) → all n p && all n q ≡ all n (λ i. p i && q i)
-unfolding all
-all-and zero p q = refl
-all-and (suc n) p q = rw (← (all-and n p q)) (mixed (all n p) (p n) (all n q) (q n))
-  where
-    mixed : (a b c d : Bool) → (a && b) && (c && d) ≡ (a && c) && (b && d)
-    mixed false b c d = refl
-    mixed true false true d = refl
-    mixed true false false d = refl
-    mixed true true c d = refl
-
 -- a test of each pair, row by row
 pub all-rows : (n w : ℕ) (p : ℕ → Bool) → all (n * w) p ≡ all n (λ g. all w (λ c. p (g * w + c)))
 unfolding all

@@ -7,11 +7,10 @@ use native.Mathlib.Nat.{add-assoc}
 use native.Mathlib.Omega.{arith}
 use lib.Bits.{bitOr, or-zero-l, or-add-and, and-le-r}
 use lib.Dec.{eqb, leb, ltb}
-use lib.ListN.{length, getD, take, drop, length-take, length-drop}
-use lib.Seq.{getD-take, getD-drop}
+use lib.ListN.{getD}
 use borrow.Author.Tests.{leb-true, lt-ltb, le-ltb, le-leb, lt-leb, ne-eqb, eqb-true}
 use Rattle.lists.specs.Sums.{sum}
-use Rattle.lists.specs.Tests.{all, all-rows, all-same, all-plus, all-and, within, within-high, chain-at}
+use Rattle.lists.specs.Tests.{all, all-rows, all-same, all-plus, within, within-high, chain-at}
 use Rattle.lists.specs.Pairs.{place, cell}
 use Rattle.lists.specs.PairsLaws.{cell-in}
 use Rattle.energy.specs.Limits.{mostGenerators, mostConsumers, mostRate, mostCycle, mostUnitBlocks, mostMonthBlocks}
@@ -90,17 +89,8 @@ consumer-here t C blocks c l = rw (lt-ltb c 16 l)
 unfoldable pub pairRead : List ℕ → List ℕ → List ℕ → List ℕ → Bool → ℕ → Bool
 pairRead link loss kw rank inside k = pairSound inside (getD link k 0) (getD loss k 0) (getD kw k 0) (getD rank k 0)
 
-unfoldable pub zeroAt : List ℕ → ℕ → Bool
-zeroAt xs i = eqb (getD xs i 0) 0
-
-pub zeros-part : (xs : List ℕ) (from to : ℕ) → to ≤ length xs → all (length (take (to - from) (drop from xs))) (zeroAt (take (to - from) (drop from xs))) ≡ all (to - from) (λ i. zeroAt xs (from + i))
-unfolding zeroAt
-zeros-part xs from to h =
-    ap (λ (k : ℕ). all k (zeroAt (take (to - from) (drop from xs)))) (length-take (to - from) (drop from xs) ∙ omega (arith, length-drop from xs, h)) ∙
-    all-same (to - from) _ _ (λ i l. rw (getD-take (to - from) (drop from xs) i 0 l, getD-drop from xs i 0))
-
 -- a number made of all by `|` is 0 where each of them is
-pub or-zero : (a b : ℕ) → eqb (bitOr a b) 0 ≡ eqb a 0 && eqb b 0
+or-zero : (a b : ℕ) → eqb (bitOr a b) 0 ≡ eqb a 0 && eqb b 0
 or-zero zero b = rw (or-zero-l b)
 or-zero (suc a) b = rw (ne-eqb (suc a) 0 (λ e. absurd (omega (arith, e)))) (ne-eqb (bitOr (suc a) b) 0 (λ e. absurd (omega (arith, e, or-add-and (suc a) b, and-le-r (suc a) b))))
 
@@ -122,27 +112,27 @@ beyond link loss kw rank = rw (at-most-zero link, at-most-zero loss, at-most-zer
     go true e false = refl
     go true e true = rw (ne-eqb link 1 (λ q. absurd (omega (arith, q, eqb-true link 0 e)))) (last (eqb kw 0))
 
-module _ (link loss kw rank : List ℕ) where
-  pub beyond-here : (n from : ℕ) {a b c d : Bool} →
-      a ≡ all n (λ i. zeroAt link (from + i)) → b ≡ all n (λ i. zeroAt loss (from + i)) → c ≡ all n (λ i. zeroAt kw (from + i)) → d ≡ all n (λ i. zeroAt rank (from + i)) →
-      (a && b && c && d) ≡ all n (λ i. pairRead link loss kw rank false (from + i))
-  unfolding pairRead zeroAt
-  beyond-here n from {a} {b} {c} {d} p q s t =
-      rw (p, q, s, t, all-and n _ _, all-and n _ _, all-and n _ _) (all-same n _ _ (λ i l. sym (beyond (getD link (from + i) 0) (getD loss (from + i) 0) (getD kw (from + i) 0) (getD rank (from + i) 0))))
+-- the next place, joined to those passed
+pub beyond-next : (bits link loss kw rank : ℕ) → eqb (bitOr (bitOr (bitOr (bitOr bits link) loss) kw) rank) 0 ≡ eqb bits 0 && pairSound false link loss kw rank
+beyond-next bits link loss kw rank =
+    rw (or-zero (bitOr (bitOr (bitOr bits link) loss) kw) rank, or-zero (bitOr (bitOr bits link) loss) kw, or-zero (bitOr bits link) loss, or-zero bits link, beyond link loss kw rank)
+    (regroup (eqb bits 0) (eqb link 0) (eqb loss 0) (eqb kw 0))
+  where
+    regroup : (b x y z : Bool) → (((b && x) && y) && z) && eqb rank 0 ≡ b && (((x && y) && z) && eqb rank 0)
+    regroup true x y z = refl
+    regroup false x y z = refl
 
+module _ (link loss kw rank : List ℕ) where
   -- the first m places of a row, and those beyond
   pub row-here : (g m : ℕ) {a b : Bool} → m ≤ 16 →
-      a ≡ all m (λ c. pairRead link loss kw rank true (g * 16 + c)) → b ≡ all (g * 16 + 16 - (g * 16 + m)) (λ i. pairRead link loss kw rank false (g * 16 + m + i)) →
+      a ≡ all m (λ c. pairRead link loss kw rank true (g * 16 + c)) → b ≡ all (16 - m) (λ i. pairRead link loss kw rank false (g * 16 + m + i)) →
       (a && b) ≡ all 16 (λ c. pairRead link loss kw rank (ltb c m) (g * 16 + c))
   row-here g m {a} {b} h p q =
-      rw (p, q) (ap₂ _&&_ (all-same m _ _ (λ c l. rw (lt-ltb c m l))) (count ∙ all-same (16 - m) _ _ (λ i l. rw (le-ltb (m + i) m (omega arith), add-assoc (g * 16) m i)))
+      rw (p, q) (ap₂ _&&_ (all-same m _ _ (λ c l. rw (lt-ltb c m l))) (all-same (16 - m) _ _ (λ i l. rw (le-ltb (m + i) m (omega arith), add-assoc (g * 16) m i)))
       ∙ sym (all-plus m (16 - m) row) ∙ ap (λ (k : ℕ). all k row) (omega (arith, h)))
     where
       row : ℕ → Bool
       row c = pairRead link loss kw rank (ltb c m) (g * 16 + c)
-
-      count : all (g * 16 + 16 - (g * 16 + m)) (λ i. pairRead link loss kw rank false (g * 16 + m + i)) ≡ all (16 - m) (λ i. pairRead link loss kw rank false (g * 16 + m + i))
-      count = ap (λ (k : ℕ). all k (λ i. pairRead link loss kw rank false (g * 16 + m + i))) (omega (arith, h))
 
   -- the first n rows, and those beyond
   pub pairs-here : (n m : ℕ) {a b : Bool} → n ≤ 8 →

@@ -1,15 +1,14 @@
 // The record of one unit, as the calls take and return it by value: 8 and 16 places always, every number a u64.
 ghost use mathlib.Core.Path.{_≡_};
 ghost use mathlib.Core.Bool.{false};
-ghost use Prim.Native.Nat.{_+_, _-_, _*_, _<_, _≤_, min};
+ghost use Prim.Native.Nat.{_+_, _*_, _<_, _≤_, min};
 ghost use lib.Dec.{ltb};
-ghost use lib.ListN.{length};
 ghost use Rattle.lists.specs.Tests.{all, within};
 ghost use Rattle.energy.specs.Limits.{mostGenerators, mostConsumers, mostUnitBlocks};
 ghost use Rattle.record.specs.Stored.{recordFrom, figures};
 ghost use Rattle.record.specs.Sound.{limit, agreedSound, pairSound, generatorSound, consumerSound, sound};
 ghost use Rattle.record.specs.Capped.{Clipped, RowTotal};
-ghost use Rattle.record.specs.SoundTests.{countsTest, agreedTest, zeroAt, pairRead, pairTest, generatorTest, consumerTest};
+ghost use Rattle.record.specs.SoundTests.{countsTest, agreedTest, pairRead, pairTest, generatorTest, consumerTest};
 
 // counts of generators and consumers, and the bank's terms: fixed at opening
 pub struct Terms {
@@ -255,43 +254,26 @@ fn agreed_all_sound(a: Agreed, kw: &[u64; 128], n: usize, m: usize) -> bool
     ok
 }
 
-// whether all the numbers are 0; joined by |, which goes through several at a time
-fn all_zero(xs: &[u64]) -> bool
-    ensures { λ r. ⌜ r ≡ all (length (now (xs .entry))) (zeroAt (now (xs .entry))) ⌝ }
-{
-    let mut bits: u64 = 0;
-    let mut i: usize = 0;
-    while i < xs.len() {
-        bits = bits | xs[i];
-        i += 1;
-    }
-    bits == 0
-}
-
-// the pair lists beyond the agreement, from one place to another
-fn zeros_in(xs: &[u64; 128], from: usize, to: usize) -> bool
-    requires { ⌜ (from ≤ to) × (to ≤ 128) ⌝ }
-    ensures { λ r. ⌜ r ≡ all (to - from) (λ i. zeroAt (now (xs .entry)) (from + i)) ⌝ }
-{
-    let whole = &xs[..];
-    all_zero(&whole[from..to])
-}
-
+// n places of the pair lists beyond the agreement: all 0. The numbers are joined by |, which goes through several at a time.
 fn beyond_sound<'a>(
     link: &'a [u64; 128],
     loss: &'a [u64; 128],
     kw: &'a [u64; 128],
     rank: &'a [u64; 128],
     from: usize,
-    to: usize,
+    n: usize,
 ) -> bool
-    requires { ⌜ (from ≤ to) × (to ≤ 128) ⌝ }
-    ensures { λ r. ⌜ r ≡ all (to - from) (λ i. pairRead (now (link .entry)) (now (loss .entry)) (now (kw .entry)) (now (rank .entry)) false (from + i)) ⌝ }
+    requires { ⌜ from + n ≤ 128 ⌝ }
+    ensures { λ r. ⌜ r ≡ all n (λ i. pairRead (now (link .entry)) (now (loss .entry)) (now (kw .entry)) (now (rank .entry)) false (from + i)) ⌝ }
 {
-    zeros_in(link, from, to)
-        & zeros_in(loss, from, to)
-        & zeros_in(kw, from, to)
-        & zeros_in(rank, from, to)
+    let mut bits: u64 = 0;
+    let mut i: usize = 0;
+    while i < n {
+        let k = from + i;
+        bits = bits | link[k] | loss[k] | kw[k] | rank[k];
+        i += 1;
+    }
+    bits == 0
 }
 
 // row g within the agreement, 16 places of which m are within it
@@ -314,7 +296,7 @@ fn row_sound<'a>(
         ok = ok & pair_sound(true, link[k], loss[k], kw[k], rank[k]);
         c += 1;
     }
-    ok & beyond_sound(link, loss, kw, rank, start + m, start + 16)
+    ok & beyond_sound(link, loss, kw, rank, start + m, 16 - m)
 }
 
 fn pairs_sound<'a>(
@@ -334,7 +316,7 @@ fn pairs_sound<'a>(
         ok = ok & row_sound(link, loss, kw, rank, g, m);
         g += 1;
     }
-    ok & beyond_sound(link, loss, kw, rank, n * 16, 128)
+    ok & beyond_sound(link, loss, kw, rank, n * 16, 128 - n * 16)
 }
 
 // the fields are read here: passing t on in a loop would copy it each turn

@@ -31,6 +31,12 @@ loop-again c = test-step (c .before .before .loop .inv) (search needs) (c .row-s
 mul-beyond-sound : tie.Need-mul-beyond-sound Inv-loop μ-loop
 mul-beyond-sound c = search needs
 
+mul-beyond-sound-2 : tie.Need-mul-beyond-sound-2 Inv-loop μ-loop
+mul-beyond-sound-2 c = search needs
+
+sub-beyond-sound : tie.Need-sub-beyond-sound Inv-loop μ-loop
+sub-beyond-sound c = search needs
+
 beyond-sound-requires : tie.Need-beyond-sound-requires Inv-loop μ-loop
 beyond-sound-requires c κs = search needs
 
@@ -49,5 +55,7 @@ pairs-sound-spec =
     loop-less
     loop-again
     mul-beyond-sound
+    mul-beyond-sound-2
+    sub-beyond-sound
     beyond-sound-requires
     returns)

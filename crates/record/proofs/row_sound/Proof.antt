@@ -62,8 +62,8 @@ loop-again c = test-step (c .before .before .before .before .before .before .loo
 add-beyond-sound : tie.Need-add-beyond-sound Inv-loop μ-loop
 add-beyond-sound c = search needs
 
-add-beyond-sound-2 : tie.Need-add-beyond-sound-2 Inv-loop μ-loop
-add-beyond-sound-2 c = search needs
+sub-beyond-sound : tie.Need-sub-beyond-sound Inv-loop μ-loop
+sub-beyond-sound c = search needs
 
 beyond-sound-requires : tie.Need-beyond-sound-requires Inv-loop μ-loop
 beyond-sound-requires c κs = search needs
@@ -93,6 +93,6 @@ row-sound-spec =
     loop-less
     loop-again
     add-beyond-sound
-    add-beyond-sound-2
+    sub-beyond-sound
     beyond-sound-requires
     returns)
