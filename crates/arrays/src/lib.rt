@@ -48,17 +48,16 @@ fn row_sum(m: &[u64; 128], g: usize, w: usize) -> u64
     s
 }
 
-fn column_sum(m: &[u64; 128], c: usize, n: usize) -> u64
-    requires { ⌜ (c < 16) × ((n ≤ 8) × (Moderate (now m))) ⌝ }
-    ensures { λ r. ⌜ r ≡ sum n (λ g. cell 8 16 (now (m .entry)) g c) ⌝ }
+// The sums of the columns over g rows, with row g added: a row lies in one piece, a column does not.
+fn add_row(sums: &mut [u64; 16], m: &[u64; 128], g: usize)
+    requires { ⌜ (g < 8) × (Moderate (now m) × (now sums ≡ table 16 (λ c. sum g (λ h. cell 8 16 (now m) h c)))) ⌝ }
+    ensures { λ r. ⌜ now (sums .exit) ≡ table 16 (λ c. sum (g + 1) (λ h. cell 8 16 (now (m .entry)) h c)) ⌝ }
 {
-    let mut s: u64 = 0;
-    let mut g: usize = 0;
-    while g < n {
-        s = s + m[g * 16 + c];
-        g += 1;
+    let mut c: usize = 0;
+    while c < 16 {
+        sums[c] = sums[c] + m[g * 16 + c];
+        c += 1;
     }
-    s
 }
 
 // Each row summed over its first w numbers.
@@ -81,10 +80,10 @@ pub fn column_sums(m: &[u64; 128], n: usize) -> [u64; 16]
     ensures { λ r. ⌜ r ≡ table 16 (λ c. sum n (λ g. cell 8 16 (now (m .entry)) g c)) ⌝ }
 {
     let mut out = [0u64; 16];
-    let mut c: usize = 0;
-    while c < 16 {
-        out[c] = column_sum(m, c, n);
-        c += 1;
+    let mut g: usize = 0;
+    while g < n {
+        add_row(&mut out, m, g);
+        g += 1;
     }
     out
 }
