@@ -48,7 +48,8 @@ module _ (b : Book) where
   unfolding banks stockAt
   banks-first g = refl
 
-  all-drawn : (g : ℕ) → sum (b .plan .C) (drawn b g) + bankBeforeLapse b g ≡ credited b g
+  -- what a generator's bank has lost to the consumers is what they drew on it
+  pub all-drawn : (g : ℕ) → sum (b .plan .C) (drawn b g) + bankBeforeLapse b g ≡ credited b g
   unfolding bankBeforeLapse
   all-drawn g =
       let e = sum-cong (b .plan .C) (drawn b g) (λ c. banks b c g - banks b (suc c) g) (λ c l. omega (arith, banks-next g c, drawn-le g c)) in

@@ -1,5 +1,5 @@
 -- Steps 2 and 3 of a closing as the code goes through them. Assumes nothing.
-use Prim.Native.Nat.{ℕ, suc, _+_, _≤_, _<_}
+use Prim.Native.Nat.{ℕ, zero, suc, _+_, _≤_, _<_}
 use mathlib.Core.Path.{_≡_, refl, ap, _∙_}
 use mathlib.Core.List.{List}
 use native.Mathlib.Numerals.{add-one}
@@ -10,7 +10,7 @@ use Rattle.lists.specs.Tables.{table, Filling, fill-start, fill-step}
 use Rattle.lists.specs.Pairs.{place}
 use Rattle.order.specs.Members.{below-more}
 use Rattle.order.specs.Settle.{given}
-use Rattle.order.specs.SettleLaws.{given-sum, unmet-le}
+use Rattle.order.specs.SettleLaws.{given-sum, unmet-le, kept-is}
 use Rattle.delivery.specs.Plan.{Plan, suppliers}
 use Rattle.delivery.specs.DeliveryLaws.{suppliers-within}
 use Rattle.delivery.specs.Filling.{fill-rest}
@@ -20,6 +20,7 @@ use Rattle.bank.specs.declared.Draw.{Draw}
 use Rattle.bank.specs.declared.Drawing.{Drawing}
 use Rattle.bank.specs.Arrays.{drawOf, drawingOf}
 use Rattle.bank.specs.BankLaws.{balances, drawn-by-rule}
+use Rattle.arrays.specs.AddedLaws.{at-table}
 use Rattle.arrays.specs.Columns.{ColumnPut, Columns, columns-start, columns-step, columns-pairs}
 
 -- what a sound record gives: nobody beyond the m consumers wants anything
@@ -41,6 +42,16 @@ module _ (p : Plan) (has want : ℕ → ℕ) where
   pub nothing-missing : (c : ℕ) → want c ≡ 0 → missingAt p has want c ≡ 0
   unfolding missingAt
   nothing-missing c z = omega (arith, unmet-le (suppliers p c) (stockAt p has want c) (want c))
+
+  -- stock only falls, and nobody lacks more than it wants
+  pub stock-falls : (g c : ℕ) → stockAt p has want c g ≤ has g
+  unfolding stockAt
+  stock-falls g zero = omega arith
+  stock-falls g (suc c) = omega (arith, stock-falls g c, kept-is (suppliers p c) (stockAt p has want c) (want c) g)
+
+  pub missing-most : (c : ℕ) → missingAt p has want c ≤ want c
+  unfolding missingAt
+  missing-most c = unmet-le (suppliers p c) (stockAt p has want c) (want c)
 
   -- The invariant of the loop over the consumers: the first c of them have drawn.
   pub record Drawn (c : ℕ) (left : Bank) (drawn supplied : List ℕ) : Type 0 where
@@ -82,3 +93,16 @@ module _ (p : Plan) (x : Bank) (outstanding : List ℕ) where
       let f = columns-pairs (h .drawn-is) (λ g c l. nothing-drawn p has want g c (beyond c l)) in
       let s = fill-rest 0 (h .supplied-is) (λ c l b. nothing-missing p has want c (beyond c l)) in
       λ i. record { bank = record { balance = e i }; drawn = f i; supplied = s i }
+
+  -- what is left of the bank, and of what was wanted
+  pub bank-falls : {d : Drawing} → d ≡ drawingOf p x outstanding → (g : ℕ) → g < 8 → place 8 (d .bank .balance) g ≤ place 8 (x .balance) g
+  unfolding drawingOf
+  bank-falls e g l =
+      let f = stockAt p (place 8 (x .balance)) (place 16 outstanding) (p .C) in
+      rw e (omega (arith, at-table 8 f g l, stock-falls p (place 8 (x .balance)) (place 16 outstanding) g (p .C)))
+
+  pub wants-fall : {d : Drawing} → d ≡ drawingOf p x outstanding → (c : ℕ) → c < 16 → place 16 (d .supplied) c ≤ place 16 outstanding c
+  unfolding drawingOf
+  wants-fall e c l =
+      let f = missingAt p (place 8 (x .balance)) (place 16 outstanding) in
+      rw e (omega (arith, at-table 16 f c l, missing-most p (place 8 (x .balance)) (place 16 outstanding) c))

@@ -12,14 +12,15 @@ use Rattle.record.specs.Called.{numberOn}
 use Rattle.record.specs.CalledLaws.{accepted-sound, number-sound, record-facts, record-accepted, record-refused, output-accepted, output-refused}
 use Rattle.record.specs.declared.ConsumerTerms.{ConsumerTerms}
 use Rattle.record.specs.declared.Record.{Record}
+use Rattle.bank.specs.Arrays.{Creditable}
+use Rattle.bank.specs.DrawingLaws.{Drawable}
 use Rattle.bank.specs.Closing.{afterClosing, closingOutput, closingLength, closingRule, Closed}
 use Rattle.closing.specs.Refusals.{accepted-size}
-use Rattle.closing.specs.Month.{monthIn, monthOf, Closable, month-is}
+use Rattle.closing.specs.Month.{Month, monthIn, monthOf, month-is}
 use Rattle.closing.specs.Totals.{RecordRoom, recordAfterClosing}
 use Rattle.closing.specs.TotalsLaws.{record-is}
 use Rattle.closing.specs.RoomLaws.{generators-room, consumers-room}
 use Rattle.closing.specs.Output.{monthWritten, output-is}
-use Rattle.closing.specs.declared.Month.{Month}
 
 module _ (r : Record) (size : ℕ) (z : numberOn (closingRule size) r ≡ 0) where
   facts : Facts (figures r)
@@ -33,7 +34,7 @@ module _ (r : Record) (size : ℕ) (z : numberOn (closingRule size) r ≡ 0) whe
   unfolding figures planOf
   consumers-few = facts .counts .C-high
 
-  gone-few : r .counts .gone ≤ 12
+  pub gone-few : r .counts .gone ≤ 12
   unfolding figures
   gone-few = omega (arith, facts .counts .gone-high, facts .counts .cycle-high)
 
@@ -41,19 +42,13 @@ module _ (r : Record) (size : ℕ) (z : numberOn (closingRule size) r ≡ 0) whe
   unfolding figures planOf closingLength closingRule
   output-size = accepted-size (figures r) size (sym (number-sound (closingRule size) r (accepted-sound (closingRule size) r z)) ∙ z)
 
-  pub closable : Closable (r .terms) (r .counts) (r .generators .bank) (r .generators .pending) (r .consumers .outstanding)
-  unfolding figures planOf generatorAt consumerAt noConsumption
-  closable =
-      record {
-        creditable = record { moderate = λ g l. omega (arith, facts .gen g .equation, injected-most (figures r) facts g); rate-high = facts .counts .rate-high };
-        drawable =
-            record {
-              G-high = generators-few;
-              C-high = consumers-few;
-              beyond = λ c h. ap (λ (x : ConsumerTerms). x .outstanding) (con-beyond (figures r) facts c h);
-            };
-        gone-few = gone-few;
-      }
+  pub creditable : Creditable (record { balance = r .generators .bank }) (r .generators .pending) (r .terms .rate)
+  unfolding figures generatorAt
+  creditable = record { moderate = λ g l. omega (arith, facts .gen g .equation, injected-most (figures r) facts g); rate-high = facts .counts .rate-high }
+
+  pub drawable : Drawable (r .terms .generators) (r .terms .consumers) (r .consumers .outstanding)
+  unfolding figures planOf consumerAt noConsumption
+  drawable = record { G-high = generators-few; C-high = consumers-few; beyond = λ c h. ap (λ (x : ConsumerTerms). x .outstanding) (con-beyond (figures r) facts c h) }
 
   -- x is what the steps gave
   module _ (x : Month) (x-is : x ≡ monthIn r) where
@@ -63,13 +58,12 @@ module _ (r : Record) (size : ℕ) (z : numberOn (closingRule size) r ≡ 0) whe
     pub record-room : RecordRoom r x
     record-room =
         record {
-          gone-few = gone-few;
           generators-room = rw by-figures (generators-room r facts);
           consumers-room = rw by-figures (consumers-room r facts);
         }
 
     pub record-after : Shape r → recordAfterClosing r x ≡ stored (afterClosing (figures r))
-    record-after s = ap (recordAfterClosing r) by-figures ∙ record-is r facts s
+    record-after s = ap (recordAfterClosing r) by-figures ∙ record-is r s
 
     pub output-after : monthWritten x (r .consumers .outstanding) (r .terms .generators) (r .terms .consumers) ≡ closingOutput (figures r)
     output-after =

@@ -11,8 +11,7 @@ use Rattle.record.specs.Stored.{consumerAt, planOf, figures}
 use Rattle.record.specs.declared.Record.{Record}
 use Rattle.bank.specs.Closing.{charge, drawn, supplied, lapsed, bankAfter, closingLists, closingOutput}
 use Rattle.arrays.specs.AddedLaws.{at-pairs}
-use Rattle.closing.specs.Month.{monthOf}
-use Rattle.closing.specs.declared.Month.{Month}
+use Rattle.closing.specs.Month.{Month, monthOf}
 
 -- the slice has the stated length
 pub record OutputRoom (o : List ℕ) (n m : ℕ) : Type 0 where

@@ -1,21 +1,19 @@
 -- A closing's sums fit 64 bits on a sound record. Assumes nothing.
-use Prim.Native.Nat.{ℕ, _/_, _%_, _≤_, _<_}
+use Prim.Native.Nat.{ℕ, _≤_, _<_}
 use mathlib.Core.List.{List}
 use native.Mathlib.Omega.{arith}
-use Rattle.lists.specs.Sums.{sum}
-use Rattle.lists.specs.Tables.{table-bound}
-use Rattle.lists.specs.Pairs.{place, pairs}
-use Rattle.lists.specs.PairsLaws.{pairs-table}
+use Rattle.lists.specs.Sums.{sum, never-rises}
+use Rattle.lists.specs.Pairs.{place}
 use Rattle.arrays.specs.Bounds.{mostFigure, Moderate, Room}
 use Rattle.arrays.specs.BoundsLaws.{moderate-table, moderate-rows, no-more, and-then, moderate-joined}
 use Rattle.record.specs.Book.{Book}
 use Rattle.record.specs.Stored.{generatorAt, consumerAt, planOf, figures}
 use Rattle.record.specs.SoundLaws.{Facts, injected-most, metered-most}
 use Rattle.record.specs.declared.Record.{Record}
-use Rattle.bank.specs.Closing.{takenUp, charge, credited, drawn, supplied, lapsed, bankAfter, closingLists, closingOutput}
-use Rattle.bank.specs.ClosingLaws.{drawn-le, generator-split, consumer-split}
-use Rattle.arrays.specs.AddedLaws.{at-table, at-rows, at-columns, moderate-pairs}
-use Rattle.closing.specs.Month.{monthOf, banks-most}
+use Rattle.bank.specs.Closing.{takenUp, charge, credited, banks, drawn, supplied, lapsed, bankAfter, closingLists, closingOutput}
+use Rattle.bank.specs.ClosingLaws.{drawn-le, banks-next, banks-first, generator-split, consumer-split}
+use Rattle.arrays.specs.AddedLaws.{at-table}
+use Rattle.closing.specs.Month.{monthOf}
 use Rattle.closing.specs.Totals.{GeneratorsRoom, ConsumersRoom}
 
 room : (n : ℕ) (xs ys : List ℕ) → ((i : ℕ) → i < n → place n xs i ≤ mostFigure) → ((i : ℕ) → i < n → place n ys i ≤ mostFigure) → Room n xs ys
@@ -38,9 +36,13 @@ module _ (b : Book) (f : Facts b) where
   unfolding takenUp
   lapsed-small g = omega (arith, generator-split b g rate-low, injected-most b f g, f .gen g .equation)
 
+  -- the banks only fall as consumers draw
+  banks-most : (g c : ℕ) → banks b c g ≤ credited b g
+  banks-most g c = omega (arith, banks-first b g, never-rises (λ k. banks b k g) (λ k. omega (arith, banks-next b g k)) 0 c (omega arith))
+
   drawn-small : (g c : ℕ) → drawn b g c ≤ mostFigure
   unfolding credited takenUp
-  drawn-small g c = omega (arith, drawn-le b g c, banks-most b g c, injected-most b f g, f .gen g .equation)
+  drawn-small g c = omega (arith, drawn-le b g c, banks-most g c, injected-most b f g, f .gen g .equation)
 
   taken-small : (c : ℕ) → sum (b .plan .G) (λ g. drawn b g c) ≤ mostFigure
   taken-small c = omega (arith, consumer-split b c, metered-most b f c, f .con c .equation)
@@ -67,29 +69,25 @@ module _ (b : Book) (f : Facts b) where
       (and-then (moderate-table C _ (λ c l. supplied-small c)) no-more))))))
 
 module _ (r : Record) (f : Facts (figures r)) where
-  pub generators-room : let x = monthOf (figures r) in GeneratorsRoom (r .generators) (x .drawn) (x .charge) (x .lapsed) (r .terms .consumers)
+  pub generators-room : let x = monthOf (figures r) in GeneratorsRoom (r .generators) (x .charge) (x .given) (x .lapsed)
   unfolding monthOf figures planOf generatorAt
   generators-room =
       let b = figures r in
       let x = r .generators in
-      let C = r .terms .consumers in
       let most : (g : ℕ) → place 8 (x .injected) g ≤ mostFigure = λ g. injected-most b f g in
       record {
-        drawn-moderate = moderate-pairs (drawn b) (drawn-small b f);
         charge-room = room 8 (x .charge) _ (λ g l. omega (arith, most g, f .gen g .equation)) (λ g l. omega (arith, at-table 8 (charge b) g l, charge-small b f g));
-        drawn-room = room 8 (x .drawn) _ (λ g l. omega (arith, most g, f .gen g .equation)) (λ g l. omega (arith, at-rows (drawn b) C g (f .counts .C-high) l, given-small b f g));
+        drawn-room = room 8 (x .drawn) _ (λ g l. omega (arith, most g, f .gen g .equation)) (λ g l. omega (arith, at-table 8 (λ g. sum (r .terms .consumers) (drawn b g)) g l, given-small b f g));
         lapsed-room = room 8 (x .lapsed) _ (λ g l. omega (arith, most g, f .gen g .equation)) (λ g l. omega (arith, at-table 8 (lapsed b) g l, lapsed-small b f g));
       }
 
-  pub consumers-room : let x = monthOf (figures r) in ConsumersRoom (r .consumers) (x .drawn) (x .supplied) (r .terms .generators)
+  pub consumers-room : let x = monthOf (figures r) in ConsumersRoom (r .consumers) (x .taken) (x .supplied)
   unfolding monthOf figures planOf consumerAt
   consumers-room =
       let b = figures r in
       let x = r .consumers in
-      let G = r .terms .generators in
       let most : (c : ℕ) → place 16 (x .metered) c ≤ mostFigure = λ c. metered-most b f c in
       record {
-        drawn-moderate = moderate-pairs (drawn b) (drawn-small b f);
-        drawn-room = room 16 (x .drawn) _ (λ c l. omega (arith, most c, f .con c .equation)) (λ c l. omega (arith, at-columns (drawn b) G c (f .counts .G-high) l, taken-small b f c));
+        drawn-room = room 16 (x .drawn) _ (λ c l. omega (arith, most c, f .con c .equation)) (λ c l. omega (arith, at-table 16 (λ c. sum (r .terms .generators) (λ g. drawn b g c)) c l, taken-small b f c));
         supplied-room = room 16 (x .supplied) _ (λ c l. omega (arith, most c, f .con c .equation)) (λ c l. omega (arith, at-table 16 (supplied b) c l, supplied-small b f c));
       }

@@ -1,20 +1,14 @@
 -- A closing's totals on the arrays of a record are those on its figures. Assumes nothing.
-use Prim.Native.Nat.{ℕ, _+_, _≤_, _<_}
-use mathlib.Core.Path.{_≡_, refl, sym, ap, _∙_}
-use mathlib.Core.List.{List}
-use native.Mathlib.Omega.{arith}
+use Prim.Native.Nat.{ℕ}
+use mathlib.Core.Path.{_≡_, refl, sym}
 use lib.ListN.{replicate}
-use Rattle.lists.specs.Sums.{sum, sum-cong}
-use Rattle.lists.specs.Tables.{table, getD-table, table-same}
-use Rattle.lists.specs.Pairs.{place, cell, pairs}
-use Rattle.lists.specs.PairsLaws.{place-in, cell-in, getD-pairs}
+use Rattle.lists.specs.Sums.{sum}
+use Rattle.lists.specs.Tables.{table}
 use Rattle.record.specs.Stored.{generatorAt, consumerAt, planOf, figures, storedGenerators, storedConsumers, stored}
 use Rattle.record.specs.Shape.{Shape, table-place, pairs-cell}
-use Rattle.record.specs.SoundLaws.{Facts}
 use Rattle.record.specs.declared.Record.{Record}
 use Rattle.bank.specs.Closing.{charge, drawn, supplied, lapses, goneAfter, lapsed, bankAfter, generatorAfterClosing, consumerAfterClosing, afterClosing}
-use Rattle.arrays.specs.Added.{added8, added16, rowSums, columnSums}
-use Rattle.arrays.specs.AddedLaws.{at-table, at-rows, at-columns, plus8, plus16}
+use Rattle.arrays.specs.AddedLaws.{at-table, plus8, plus16}
 use Rattle.closing.specs.Month.{monthOf}
 use Rattle.closing.specs.Totals.{monthsGone, generatorsAfter, consumersAfter, recordAfterClosing}
 
@@ -30,16 +24,8 @@ zeros16 = refl
 
 -- ---- what a closing adds
 
-module _ (r : Record) (f : Facts (figures r)) (s : Shape r) where
-  C16 : r .terms .consumers ≤ 16
-  unfolding figures planOf
-  C16 = f .counts .C-high
-
-  G8 : r .terms .generators ≤ 8
-  unfolding figures planOf
-  G8 = f .counts .G-high
-
-  generators-are : let x = monthOf (figures r) in generatorsAfter (r .generators) (x .drawn) (x .charge) (x .lapsed) (x .balance) (r .terms .consumers) ≡ storedGenerators (generatorAfterClosing (figures r))
+module _ (r : Record) (s : Shape r) where
+  generators-are : let x = monthOf (figures r) in generatorsAfter (r .generators) (x .charge) (x .given) (x .lapsed) (x .balance) ≡ storedGenerators (generatorAfterClosing (figures r))
   unfolding generatorsAfter monthOf storedGenerators generatorAfterClosing figures generatorAt planOf
   generators-are =
       let x = r .generators in
@@ -52,13 +38,13 @@ module _ (r : Record) (f : Facts (figures r)) (s : Shape r) where
         setoff = sym (table-place 8 (x .setoff) (z .setoff)) i;
         inadvertent = sym (table-place 8 (x .inadvertent) (z .inadvertent)) i;
         charge = plus8 (x .charge) (table 8 (charge b)) (charge b) (at-table 8 (charge b)) i;
-        drawn = plus8 (x .drawn) (rowSums (pairs 8 16 (drawn b)) (r .terms .consumers)) (λ g. sum (r .terms .consumers) (λ c. drawn b g c)) (λ g l. at-rows (drawn b) (r .terms .consumers) g C16 l) i;
+        drawn = let given : ℕ → ℕ = λ g. sum (r .terms .consumers) (drawn b g) in plus8 (x .drawn) (table 8 given) given (at-table 8 given) i;
         lapsed = plus8 (x .lapsed) (table 8 (lapsed b)) (lapsed b) (at-table 8 (lapsed b)) i;
         bank = table 8 (bankAfter b);
         pending = zeros8 i;
       }
 
-  consumers-are : let x = monthOf (figures r) in consumersAfter (r .consumers) (x .drawn) (x .supplied) (r .terms .generators) ≡ storedConsumers (consumerAfterClosing (figures r))
+  consumers-are : let x = monthOf (figures r) in consumersAfter (r .consumers) (x .taken) (x .supplied) ≡ storedConsumers (consumerAfterClosing (figures r))
   unfolding consumersAfter monthOf storedConsumers consumerAfterClosing figures consumerAt planOf
   consumers-are =
       let x = r .consumers in
@@ -68,7 +54,7 @@ module _ (r : Record) (f : Facts (figures r)) (s : Shape r) where
         metered = sym (table-place 16 (x .metered) (z .metered)) i;
         setoff = sym (table-place 16 (x .setoff) (z .setoff)) i;
         shortfall = sym (table-place 16 (x .shortfall) (z .shortfall)) i;
-        drawn = plus16 (x .drawn) (columnSums (pairs 8 16 (drawn b)) (r .terms .generators)) (λ c. sum (r .terms .generators) (λ g. drawn b g c)) (λ c l. at-columns (drawn b) (r .terms .generators) c G8 l) i;
+        drawn = let taken : ℕ → ℕ = λ c. sum (r .terms .generators) (λ g. drawn b g c) in plus16 (x .drawn) (table 16 taken) taken (at-table 16 taken) i;
         supplied = plus16 (x .supplied) (table 16 (supplied b)) (supplied b) (at-table 16 (supplied b)) i;
         outstanding = zeros16 i;
       }

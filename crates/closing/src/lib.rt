@@ -9,7 +9,7 @@ ghost use Rattle.record.specs.Shape.{LinksShape, ScheduleShape};
 ghost use Rattle.bank.specs.Closing.{closingRule, Closed};
 ghost use Rattle.closing.specs.Refusals.{ownRefusal};
 ghost use Rattle.closing.specs.Totals.{generatorsAfter, consumersAfter, monthsGone, GeneratorsRoom, ConsumersRoom};
-ghost use Rattle.closing.specs.Month.{Closable, monthFrom};
+ghost use Rattle.closing.specs.Month.{less, AtMost};
 ghost use Rattle.closing.specs.Output.{OutputRoom, sixLists};
 ghost use Rattle.closing.specs.Accepted.{MonthClosed};
 use bank::Bank;
@@ -20,15 +20,6 @@ use record::Counts;
 use record::Generators;
 use record::Record;
 use record::Terms;
-
-// What steps 1 to 4 give, in the record's width; balance is the bank after step 4.
-pub struct Month {
-    pub charge: [u64; 8],
-    pub drawn: [u64; 128],
-    pub supplied: [u64; 16],
-    pub lapsed: [u64; 8],
-    pub balance: [u64; 8],
-}
 
 // What a closing changes of a record.
 pub struct Totals {
@@ -101,58 +92,47 @@ fn months_gone(terms: Terms, counts: Counts) -> u64
     }
 }
 
-// Steps 1 to 4 on the arrays of a record.
-fn steps<'a>(
-    terms: Terms,
-    counts: Counts,
-    link: &'a [u64; 128],
-    rank: &'a [u64; 128],
-    held: [u64; 8],
-    pending: [u64; 8],
-    outstanding: [u64; 16],
-) -> Month
-    requires { ⌜ Closable terms counts held pending outstanding ⌝ }
-    ensures { λ x. ⌜ x ≡ monthFrom terms counts (now (link .entry)) (now (rank .entry)) held pending outstanding ⌝ }
+fn less8(a: [u64; 8], b: [u64; 8]) -> [u64; 8]
+    requires { ⌜ AtMost 8 b a ⌝ }
+    ensures { λ r. ⌜ r ≡ less 8 a b ⌝ }
 {
-    let n = terms.generators as usize;
-    let m = terms.consumers as usize;
-    let before = Bank { balance: held };
-    let credit = before.credit(pending, terms.rate);
-    let credited = credit.bank;
-    let charge = credit.charge;
-    let drawing = bank::draw_all(credited, n, m, rank, link, outstanding);
-    let drawn_on = drawing.bank;
-    let drawn = drawing.drawn;
-    let supplied = drawing.supplied;
-    let lapse = drawn_on.lapse(cycle_ends(terms, counts));
-    let after = lapse.bank;
-    let lapsed = lapse.lapsed;
-    let balance = after.balance;
-    Month {
-        charge,
-        drawn,
-        supplied,
-        lapsed,
-        balance,
+    let mut out = [0u64; 8];
+    let mut g: usize = 0;
+    while g < 8 {
+        out[g] = a[g] - b[g];
+        g += 1;
     }
+    out
+}
+
+fn less16(a: [u64; 16], b: [u64; 16]) -> [u64; 16]
+    requires { ⌜ AtMost 16 b a ⌝ }
+    ensures { λ r. ⌜ r ≡ less 16 a b ⌝ }
+{
+    let mut out = [0u64; 16];
+    let mut c: usize = 0;
+    while c < 16 {
+        out[c] = a[c] - b[c];
+        c += 1;
+    }
+    out
 }
 
 fn generators_after(
     t: Generators,
-    drawn: &[u64; 128],
     charge: [u64; 8],
+    given: [u64; 8],
     lapsed: [u64; 8],
     balance: [u64; 8],
-    m: usize,
 ) -> Generators
-    requires { ⌜ (m ≤ 16) × GeneratorsRoom t (now drawn) charge lapsed m ⌝ }
-    ensures { λ r. ⌜ r ≡ generatorsAfter t (now (drawn .entry)) charge lapsed balance m ⌝ }
+    requires { ⌜ GeneratorsRoom t charge given lapsed ⌝ }
+    ensures { λ r. ⌜ r ≡ generatorsAfter t charge given lapsed balance ⌝ }
 {
     let charged = t.charge;
-    let given = t.drawn;
+    let drawn = t.drawn;
     let gone = t.lapsed;
     let charge_total = arrays::add8(charged, charge);
-    let drawn_total = arrays::add8(given, arrays::row_sums(drawn, m));
+    let drawn_total = arrays::add8(drawn, given);
     let lapsed_total = arrays::add8(gone, lapsed);
     let none = [0u64; 8];
     let mut after = t;
@@ -164,13 +144,13 @@ fn generators_after(
     after
 }
 
-fn consumers_after(t: Consumers, drawn: &[u64; 128], supplied: [u64; 16], n: usize) -> Consumers
-    requires { ⌜ (n ≤ 8) × ConsumersRoom t (now drawn) supplied n ⌝ }
-    ensures { λ r. ⌜ r ≡ consumersAfter t (now (drawn .entry)) supplied n ⌝ }
+fn consumers_after(t: Consumers, taken: [u64; 16], supplied: [u64; 16]) -> Consumers
+    requires { ⌜ ConsumersRoom t taken supplied ⌝ }
+    ensures { λ r. ⌜ r ≡ consumersAfter t taken supplied ⌝ }
 {
-    let taken = t.drawn;
+    let drawn = t.drawn;
     let bought = t.supplied;
-    let drawn_total = arrays::add16(taken, arrays::column_sums(drawn, n));
+    let drawn_total = arrays::add16(drawn, taken);
     let supplied_total = arrays::add16(bought, supplied);
     let none = [0u64; 16];
     let mut after = t;
@@ -208,7 +188,8 @@ fn write_lists(
     arrays::put16(out, last, &supplied, m);
 }
 
-// Steps 1 to 4, and the output, on a record that is given by its parts.
+// Steps 1 to 4, and the output, on a record that is given by its parts. What was drawn by generator and by consumer is
+// what the bank and the open energy have lost by it.
 pub fn close_on<'a>(
     terms: Terms,
     counts: Counts,
@@ -229,14 +210,20 @@ pub fn close_on<'a>(
     let outstanding = consumers.outstanding;
     let n = terms.generators as usize;
     let m = terms.consumers as usize;
-    let x = steps(terms, counts, link, rank, held, pending, outstanding);
-    let charge = x.charge;
-    let lapsed = x.lapsed;
-    let balance = x.balance;
-    let supplied = x.supplied;
+    let before = Bank { balance: held };
+    let credit = before.credit(pending, terms.rate);
+    let charge = credit.charge;
+    let credited = credit.bank;
+    let drawing = bank::draw_all(credited, n, m, rank, link, outstanding);
+    let supplied = drawing.supplied;
+    let drawn_on = drawing.bank;
+    let lapse = drawn_on.lapse(cycle_ends(terms, counts));
+    let lapsed = lapse.lapsed;
+    let after = lapse.bank;
+    let balance = after.balance;
     write_lists(
         out,
-        &x.drawn,
+        &drawing.drawn,
         charge,
         lapsed,
         balance,
@@ -245,14 +232,16 @@ pub fn close_on<'a>(
         n,
         m,
     );
+    let full = credited.balance;
+    let rest = drawn_on.balance;
     Totals {
         counts: Counts {
             gone: months_gone(terms, counts),
             blocks: counts.blocks,
             month: 0,
         },
-        generators: generators_after(generators, &x.drawn, charge, lapsed, balance, m),
-        consumers: consumers_after(consumers, &x.drawn, supplied, n),
+        generators: generators_after(generators, charge, less8(full, rest), lapsed, balance),
+        consumers: consumers_after(consumers, less16(outstanding, supplied), supplied),
     }
 }
 

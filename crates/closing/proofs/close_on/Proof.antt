@@ -3,44 +3,71 @@ use lib.ListN.{length-map}
 use mathlib.Core.Path.{_≡_, _∙_}
 use Rattle.record.specs.Shape.{Shape}
 use Rattle.record.specs.Stored.{recordFrom}
+use Rattle.bank.specs.DrawingLaws.{bank-falls, wants-fall}
+use Rattle.closing.specs.Month.{Month, monthIn, monthMade, steps-are}
 use Rattle.closing.specs.Output.{monthWritten}
 use Rattle.closing.specs.Totals.{RecordRoom, recordAfterClosing}
-use Rattle.closing.specs.Accepted.{generators-few, consumers-few, output-size, closable, record-room, record-after, output-after}
+use Rattle.closing.specs.Accepted.{generators-few, consumers-few, gone-few, output-size, creditable, drawable, record-room, record-after, output-after}
 use Prim.Native.Nat.{ℕ}
 use mathlib.Core.List.{List}
 use Rattle.record.specs.declared.Agreed.{Agreed}
 use Rattle.record.specs.declared.Consumers.{Consumers}
 use Rattle.record.specs.declared.Generators.{Generators}
+use Rattle.record.specs.declared.Record.{Record}
 use Rattle.record.specs.declared.Terms.{Terms}
 use borrow.Author.Needs.{needs}
 use Rattle.closing.proofs.close_on.Statement.{statement}
 use Rattle.closing.proofs.close_on.Tie as tie
 
-steps-requires : tie.Need-steps-requires
-steps-requires c κs = closable _ _ (c .before .before .before .before .pre .2)
+-- the record that the parts make up
+abbrev whole : tie.Start → Record
+whole c = let a = c .args in recordFrom (a .terms) (a .counts) (a .agreed) (a .link .now) (a .loss .now) (a .kw .now) (a .rank .now) (a .generators) (a .consumers)
+
+credit-requires : tie.Need-credit-requires
+credit-requires c κs = creditable (whole (c .before .before .before .before)) _ (c .before .before .before .before .pre .2)
+
+draw-all-requires : tie.Need-draw-all-requires
+draw-all-requires c κs = drawable (whole (c .before .before .before .before .before .before .before)) _ (c .before .before .before .before .before .before .before .pre .2)
+
+cycle-ends-requires : tie.Need-cycle-ends-requires
+cycle-ends-requires c κs = gone-few (whole (c .before .before .before .before .before .before .before .before .before .before)) _ (c .before .before .before .before .before .before .before .before .before .before .pre .2)
+
+lapse-requires : tie.Need-lapse-requires
+lapse-requires c κs = search needs
+
+-- what the steps gave
+abbrev month : tie.After-lapse → Month
+month c = monthMade (c .before .before .before .before .before .before .before .credit .result) (c .before .before .before .before .draw-all .result) (c .lapse .result) (whole (c .before .before .before .before .before .before .before .before .before .before .before .before) .consumers .outstanding)
+
+month-so : (c : tie.After-lapse) → month c ≡ monthIn (whole (c .before .before .before .before .before .before .before .before .before .before .before .before))
+month-so c = let a = c .before .before .before .before .before .before .before .before .before .before .before .before .args in steps-are (a .terms) (a .counts) (a .link .now) (a .rank .now) (a .generators .bank) (a .generators .pending) (a .consumers .outstanding) (c .before .before .before .before .before .before .before .credit .ensures) (c .before .before .before .before .draw-all .ensures) (c .before .cycle-ends .ensures) (c .lapse .ensures)
+
+room : (c : tie.After-lapse) → RecordRoom (whole (c .before .before .before .before .before .before .before .before .before .before .before .before)) (month c)
+room c = record-room _ _ (c .before .before .before .before .before .before .before .before .before .before .before .before .pre .2) _ (month-so c)
 
 write-lists-requires : tie.Need-write-lists-requires
-write-lists-requires c κs = let z = c .before .before .before .before .before .before .before .before .before .before .before .before .pre .2 in record { size = output-size _ _ z; rows = generators-few _ _ z; columns = consumers-few _ _ z }
-
--- what the totals rest on, once the steps are done
-room : (c : tie.After-steps) → let a = c .before .before .before .before .before .args in
-    RecordRoom (recordFrom (a .terms) (a .counts) (a .agreed) (a .link .now) (a .loss .now) (a .kw .now) (a .rank .now) (a .generators) (a .consumers)) (c .steps .result)
-room c = record-room _ _ (c .before .before .before .before .before .pre .2) _ (c .steps .ensures)
+write-lists-requires c κs = let z = c .before .before .before .before .before .before .before .before .before .before .before .before .before .before .before .before .before .before .pre .2 in record { size = output-size _ _ z; rows = generators-few _ _ z; columns = consumers-few _ _ z }
 
 months-gone-requires : tie.Need-months-gone-requires
-months-gone-requires c κs = room (c .before .before .before .before .before .before .before .before .before .before) .gone-few
+months-gone-requires c κs = gone-few (whole (c .before .before .before .before .before .before .before .before .before .before .before .before .before .before .before .before .before .before .before .before .before .before .before)) _ (c .before .before .before .before .before .before .before .before .before .before .before .before .before .before .before .before .before .before .before .before .before .before .before .pre .2)
+
+less8-requires : tie.Need-less8-requires
+less8-requires c κs = bank-falls _ _ _ (c .before .before .before .before .before .before .before .before .before .before .before .before .before .before .before .before .draw-all .ensures)
 
 generators-after-requires : tie.Need-generators-after-requires
-generators-after-requires c κs = (consumers-few _ _ (c .before .before .before .before .before .before .before .before .before .before .before .before .before .before .before .before .before .before .pre .2), room (c .before .before .before .before .before .before .before .before .before .before .before .before .before) .generators-room)
+generators-after-requires c κs = rw (c .less8 .ensures) (room (c .before .before .before .before .before .before .before .before .before .before .before .before .before) .generators-room)
+
+less16-requires : tie.Need-less16-requires
+less16-requires c κs = wants-fall _ _ _ (c .before .before .before .before .before .before .before .before .before .before .before .before .before .before .before .before .before .before .draw-all .ensures)
 
 consumers-after-requires : tie.Need-consumers-after-requires
-consumers-after-requires c κs = (generators-few _ _ (c .before .before .before .before .before .before .before .before .before .before .before .before .before .before .before .before .before .before .before .before .before .pre .2), room (c .before .before .before .before .before .before .before .before .before .before .before .before .before .before .before .before) .consumers-room)
+consumers-after-requires c κs = rw (c .less16 .ensures) (room (c .before .before .before .before .before .before .before .before .before .before .before .before .before .before .before) .consumers-room)
 
 same-length : tie.Need-same-length
 same-length c = search needs
 
 -- a struct by value has the lists of its type; of those that are lent the call says so
-shape : (c : tie.Start) → let a = c .args in Shape (recordFrom (a .terms) (a .counts) (a .agreed) (a .link .now) (a .loss .now) (a .kw .now) (a .rank .now) (a .generators) (a .consumers))
+shape : (c : tie.Start) → Shape (whole c)
 shape c =
     let agreed = c .good .1 .1 .0 .1 .1 in
     let totals = c .good .1 .1 .1 .1 .1 .1 .1 in
@@ -82,21 +109,26 @@ same-parts terms agreed link loss kw rank {blocks = blocks} n g o = λ i. record
 returns : tie.Need-returns
 unfolding monthWritten recordAfterClosing
 returns c =
-    let s = c .before .before .before .before .before .before .before .before .before .before .before .before .before .before .before .before .before .before .before .before .before .before in
-    let x = c .before .before .before .before .before .before .before .before .before .before .before .before .before .before .before .before .before .steps .ensures in
-    let gone = c .before .before .before .before .before .before .months-gone .ensures in
-    let generators = c .before .before .before .generators-after .ensures in
-    let consumers = c .consumers-after .ensures in
+    let s = c .before .before .before .before .before .before .before .before .before .before .before .before .before .before .before .before .before .before .before .before .before .before .before .before .before .before .before .before in
+    let x = month-so (c .before .before .before .before .before .before .before .before .before .before .before .before .before .before .before .before) in
+    let gone = c .before .before .before .before .months-gone .ensures in
+    let generators = rw (c .before .before .before .less8 .ensures) at (c .before .before .generators-after .ensures) in
+    let consumers = rw (c .before .less16 .ensures) at (c .consumers-after .ensures) in
     record { record-is = same-parts _ _ _ _ _ _ gone generators consumers ∙ record-after _ _ (s .pre .2) _ x (shape s); output-is = c .before .before .before .before .before .before .before .before .before .write-lists .ensures ∙ output-after _ _ (s .pre .2) _ x }
 
 pub close-on-spec : {M : Type 1} → statement M
 close-on-spec =
     tie.close
     (tie.spec
-    steps-requires
+    credit-requires
+    draw-all-requires
+    cycle-ends-requires
+    lapse-requires
     write-lists-requires
     months-gone-requires
+    less8-requires
     generators-after-requires
+    less16-requires
     consumers-after-requires
     same-length
     returns)
