@@ -116,22 +116,22 @@ pub fn draw_all<'a>(
     requires { ⌜ Drawable n m outstanding ⌝ }
     ensures { λ r. ⌜ r ≡ drawingOf (linkPlan n m (now (rank .entry)) (now (link .entry))) bank outstanding ⌝ }
 {
+    let mut all = Drawing {
+        bank,
+        drawn: [0u64; 128],
+        supplied: [0u64; 16],
+    };
     let mut left = bank;
-    let mut drawn = [0u64; 128];
-    let mut supplied = [0u64; 16];
     let mut c: usize = 0;
     while c < m {
         let turn = left.draw(n, rank, link, c, outstanding[c]);
         let column = turn.drawn;
-        arrays::put_column(&mut drawn, c, column);
-        supplied[c] = turn.left;
         let next = turn.bank;
+        arrays::put_column(&mut all.drawn, c, column);
+        all.supplied[c] = turn.left;
         left = next;
         c += 1;
     }
-    Drawing {
-        bank: left,
-        drawn,
-        supplied,
-    }
+    all.bank = left;
+    all
 }

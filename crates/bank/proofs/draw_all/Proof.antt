@@ -12,11 +12,11 @@ use Rattle.bank.proofs.draw_all.Statement.{statement}
 use Rattle.bank.proofs.draw_all.Tie as tie
 
 abbrev Inv-loop : tie.InvT-loop
-Inv-loop n m rank link outstanding left₀ drawn₀ supplied₀ c₀ left drawn supplied c =
-    Drawn (linkPlan n m rank link) (place 8 (left₀ .balance)) (place 16 outstanding) c left drawn supplied × (c ≤ m)
+Inv-loop n m rank link outstanding all₀ left₀ c₀ all left c =
+    Drawn (linkPlan n m rank link) (place 8 (left₀ .balance)) (place 16 outstanding) c left (all .drawn) (all .supplied) × (c ≤ m)
 
 abbrev μ-loop : tie.MeasureT-loop
-μ-loop n m rank link outstanding left₀ drawn₀ supplied₀ c₀ left drawn supplied c = m - c
+μ-loop n m rank link outstanding all₀ left₀ c₀ all left c = m - c
 
 loop-holds : tie.Need-loop-holds Inv-loop μ-loop
 loop-holds c = (drawing-start _ _ _ (search needs), search needs)
@@ -33,11 +33,11 @@ draw-requires c κs = search needs
 put-column-requires : tie.Need-put-column-requires Inv-loop μ-loop
 put-column-requires c κs = search needs
 
-mul-supplied : tie.Need-mul-supplied Inv-loop μ-loop
-mul-supplied c = search needs
+mul-all : tie.Need-mul-all Inv-loop μ-loop
+mul-all c = search needs
 
-array-write-supplied : tie.Need-array-write-supplied Inv-loop μ-loop
-array-write-supplied c = search needs
+element-write-all : tie.Need-element-write-all Inv-loop μ-loop
+element-write-all c = search needs
 
 add-c : tie.Need-add-c Inv-loop μ-loop
 add-c c = search needs
@@ -53,7 +53,7 @@ loop-again c =
     let l = turn .before .loop in
     let s = turn .before .before in
     let b : l .c < 16 = omega (arith, turn .loop-test .taken, s .pre .C-high) in (
-      drawing-step (linkPlan (s .args .n) (s .args .m) (s .args .rank .now) (s .args .link .now)) _ _ (s .pre .G-high) b (l .inv .0) (sym (place-in 16 _ _ b)) (drew .draw .ensures) (c .before .put-column .ensures),
+      drawing-step (linkPlan (s .args .n) (s .args .m) (s .args .rank .now) (s .args .link .now)) _ _ (s .pre .G-high) b (l .inv .0) (sym (place-in 16 _ _ b)) (drew .draw .ensures) (c .put-column .ensures),
       omega (arith, turn .loop-test .taken),
     )
 
@@ -76,8 +76,8 @@ draw-all-spec =
     array-read-draw
     draw-requires
     put-column-requires
-    mul-supplied
-    array-write-supplied
+    mul-all
+    element-write-all
     add-c
     loop-less
     loop-again
