@@ -195,34 +195,45 @@ fn pair_sound(inside: bool, link: u64, loss: u64, kw: u64, rank: u64) -> bool
         & (rank <= limit_at(inside, MOST_RANK))
 }
 
+// beyond the agreement every total is 0
 fn generator_sound(blocks: u64, inside: bool, x: GeneratorTerms) -> bool
     requires { ⌜ blocks ≤ mostUnitBlocks ⌝ }
     ensures { λ r. ⌜ r ≡ generatorSound blocks inside x ⌝ }
 {
-    let most = limit_at(inside, energy::MOST_READING * blocks);
-    let split = capped(x.unaccounted)
-        + capped(x.lost)
-        + capped(x.setoff)
-        + capped(x.inadvertent)
-        + capped(x.charge)
-        + capped(x.drawn)
-        + capped(x.lapsed)
-        + capped(x.bank)
-        + capped(x.pending);
-    (x.injected <= most) & (x.injected == split)
+    if inside {
+        let most = energy::MOST_READING * blocks;
+        let split = capped(x.unaccounted)
+            + capped(x.lost)
+            + capped(x.setoff)
+            + capped(x.inadvertent)
+            + capped(x.charge)
+            + capped(x.drawn)
+            + capped(x.lapsed)
+            + capped(x.bank)
+            + capped(x.pending);
+        (x.injected <= most) & (x.injected == split)
+    } else {
+        let given = x.injected | x.unaccounted | x.lost | x.setoff | x.inadvertent;
+        let banked = x.charge | x.drawn | x.lapsed | x.bank | x.pending;
+        (given | banked) == 0
+    }
 }
 
 fn consumer_sound(blocks: u64, inside: bool, x: ConsumerTerms) -> bool
     requires { ⌜ blocks ≤ mostUnitBlocks ⌝ }
     ensures { λ r. ⌜ r ≡ consumerSound blocks inside x ⌝ }
 {
-    let most = limit_at(inside, energy::MOST_READING * blocks);
-    let split = capped(x.setoff)
-        + capped(x.shortfall)
-        + capped(x.drawn)
-        + capped(x.supplied)
-        + capped(x.outstanding);
-    (x.metered <= most) & (x.metered == split)
+    if inside {
+        let most = energy::MOST_READING * blocks;
+        let split = capped(x.setoff)
+            + capped(x.shortfall)
+            + capped(x.drawn)
+            + capped(x.supplied)
+            + capped(x.outstanding);
+        (x.metered <= most) & (x.metered == split)
+    } else {
+        (x.metered | x.setoff | x.shortfall | x.drawn | x.supplied | x.outstanding) == 0
+    }
 }
 
 // the kW of generator g for the first n consumers, each capped

@@ -1,15 +1,15 @@
 -- `record::consumer_sound` meets its contract: no sum of five capped terms wraps, and it compares with metered as the whole sum does.
+use mathlib.Core.Bool.{true}
+use mathlib.Core.Path.{refl}
 use borrow.Author.Needs.{needs}
 use Rattle.record.specs.Sound.{consumerSound}
+use Rattle.record.specs.SoundTests.{consumer-beyond}
 use Rattle.record.specs.CappedLaws.{capped-equation, clip-add}
 use Rattle.record.proofs.consumer_sound.Statement.{statement}
 use Rattle.record.proofs.consumer_sound.Tie as tie
 
-mul-limit-at : tie.Need-mul-limit-at
-mul-limit-at c = search needs
-
-limit-at-requires : tie.Need-limit-at-requires
-limit-at-requires c κs = search needs
+mul-most : tie.Need-mul-most
+mul-most c = search needs
 
 capped-requires : tie.Need-capped-requires
 capped-requires c κs = search needs
@@ -41,21 +41,21 @@ add-split-4 c = search needs
 returns : tie.Need-returns
 unfolding consumerSound
 returns c =
-    capped-equation (c .before .before .before .before .before .before .before .before .args .inside) _ _
-    (c .before .before .before .before .before .before .before .limit-at .ensures)
-    (c .before .before .before .before .before .before .before .before .pre)
+    rw (c .before .before .before .before .before .before .before .if1 .taken) (capped-equation true _ _ refl (c .before .before .before .before .before .before .before .before .pre)
     (clip-add (clip-add (clip-add (clip-add (c .before .before .before .before .before .before .capped .ensures .cut)
     (c .before .before .before .before .before .capped2 .ensures))
     (c .before .before .before .before .capped3 .ensures))
     (c .before .before .before .capped4 .ensures))
-    (c .before .before .capped5 .ensures))
+    (c .before .before .capped5 .ensures)))
+
+returns-2 : tie.Need-returns-2
+returns-2 c = rw (c .before .before .before .before .before .if1 .left) (consumer-beyond _ _)
 
 pub consumer-sound-spec : {M : Type 1} → statement M
 consumer-sound-spec =
     tie.close
     (tie.spec
-    mul-limit-at
-    limit-at-requires
+    mul-most
     capped-requires
     capped-requires-2
     add-split
@@ -65,4 +65,5 @@ consumer-sound-spec =
     add-split-3
     capped-requires-5
     add-split-4
-    returns)
+    returns
+    returns-2)

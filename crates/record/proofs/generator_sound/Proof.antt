@@ -1,15 +1,15 @@
 -- `record::generator_sound` meets its contract: no sum of nine capped terms wraps, and it compares with injected as the whole sum does.
+use mathlib.Core.Bool.{true}
+use mathlib.Core.Path.{refl}
 use borrow.Author.Needs.{needs}
 use Rattle.record.specs.Sound.{generatorSound}
+use Rattle.record.specs.SoundTests.{generator-beyond}
 use Rattle.record.specs.CappedLaws.{capped-equation, clip-add}
 use Rattle.record.proofs.generator_sound.Statement.{statement}
 use Rattle.record.proofs.generator_sound.Tie as tie
 
-mul-limit-at : tie.Need-mul-limit-at
-mul-limit-at c = search needs
-
-limit-at-requires : tie.Need-limit-at-requires
-limit-at-requires c κs = search needs
+mul-most : tie.Need-mul-most
+mul-most c = search needs
 
 capped-requires : tie.Need-capped-requires
 capped-requires c κs = search needs
@@ -65,9 +65,7 @@ add-split-8 c = search needs
 returns : tie.Need-returns
 unfolding generatorSound
 returns c =
-    capped-equation (c .before .before .before .before .before .before .before .before .before .before .before .before .args .inside) _ _
-    (c .before .before .before .before .before .before .before .before .before .before .before .limit-at .ensures)
-    (c .before .before .before .before .before .before .before .before .before .before .before .before .pre)
+    rw (c .before .before .before .before .before .before .before .before .before .before .before .if1 .taken) (capped-equation true _ _ refl (c .before .before .before .before .before .before .before .before .before .before .before .before .pre)
     (clip-add (clip-add (clip-add (clip-add (clip-add (clip-add (clip-add (clip-add (c .before .before .before .before .before .before .before .before .before .before .capped .ensures .cut)
     (c .before .before .before .before .before .before .before .before .before .capped2 .ensures))
     (c .before .before .before .before .before .before .before .before .capped3 .ensures))
@@ -76,14 +74,16 @@ returns c =
     (c .before .before .before .before .before .capped6 .ensures))
     (c .before .before .before .before .capped7 .ensures))
     (c .before .before .before .capped8 .ensures))
-    (c .before .before .capped9 .ensures))
+    (c .before .before .capped9 .ensures)))
+
+returns-2 : tie.Need-returns-2
+returns-2 c = rw (c .before .before .before .before .before .before .before .before .if1 .left) (generator-beyond _ _)
 
 pub generator-sound-spec : {M : Type 1} → statement M
 generator-sound-spec =
     tie.close
     (tie.spec
-    mul-limit-at
-    limit-at-requires
+    mul-most
     capped-requires
     capped-requires-2
     add-split
@@ -101,4 +101,5 @@ generator-sound-spec =
     add-split-7
     capped-requires-9
     add-split-8
-    returns)
+    returns
+    returns-2)
