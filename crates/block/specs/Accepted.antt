@@ -152,13 +152,6 @@ module _ (r : Record) (entry exit : List ℕ) (size : ℕ) (z : numberOn (blockR
     unfolding E R planOf
     output-after = ap (λ (y : Lists). listsWritten y (r .terms .generators) (r .terms .consumers)) lists-are ∙ output-is (planOf r) E R generators-few consumers-few
 
--- pair lists that are lent have 128 numbers each, as their type says
-pub record PairLists (link loss kw rank : List ℕ) : Type 0 where
-  pub link-size : length link ≡ 128
-  pub loss-size : length loss ≡ 128
-  pub kw-size : length kw ≡ 128
-  pub rank-size : length rank ≡ 128
-
 -- what an accepted block makes of the record, and leaves in the slice
 pub record Entered (r : Record) (entry exit : List ℕ) (a : Record) (out : List ℕ) : Type 0 where
   pub record-is : a ≡ stored (afterBlock (figures r) (entryOf entry exit (figures r)) (exitOf entry exit (figures r)))

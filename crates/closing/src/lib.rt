@@ -5,7 +5,7 @@ ghost use lib.Dec.{eqb};
 ghost use lib.ListN.{length};
 ghost use Rattle.record.specs.Called.{numberOn};
 ghost use Rattle.record.specs.Stored.{recordFrom};
-ghost use Rattle.record.specs.Shape.{LinksShape, ScheduleShape};
+ghost use Rattle.record.specs.Shape.{PairLists};
 ghost use Rattle.bank.specs.Closing.{closingRule, Closed};
 ghost use Rattle.closing.specs.Refusals.{ownRefusal};
 ghost use Rattle.closing.specs.Totals.{generatorsAfter, consumersAfter, monthsGone, GeneratorsRoom, ConsumersRoom};
@@ -202,7 +202,7 @@ pub fn close_on<'a>(
     consumers: Consumers,
     out: &mut [u64],
 ) -> Totals
-    requires { ⌜ LinksShape (record { link = now link; loss = now loss }) × ScheduleShape (record { kw = now kw; rank = now rank }) × (numberOn (closingRule (length (now out))) (recordFrom terms counts agreed (now link) (now loss) (now kw) (now rank) generators consumers) ≡ 0) ⌝ }
+    requires { ⌜ PairLists (now link) (now loss) (now kw) (now rank) × (numberOn (closingRule (length (now out))) (recordFrom terms counts agreed (now link) (now loss) (now kw) (now rank) generators consumers) ≡ 0) ⌝ }
     ensures { λ t. ⌜ MonthClosed (recordFrom terms counts agreed (now (link .entry)) (now (loss .entry)) (now (kw .entry)) (now (rank .entry)) generators consumers) (recordFrom terms (t .counts) agreed (now (link .entry)) (now (loss .entry)) (now (kw .entry)) (now (rank .entry)) (t .generators) (t .consumers)) (now (out .exit)) ⌝ }
 {
     let held = generators.bank;

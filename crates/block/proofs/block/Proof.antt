@@ -1,5 +1,6 @@
 -- `block::block` meets its contract: the call gives what `Blocked` says, accepted or refused.
-use Rattle.block.specs.Accepted.{PairLists, block-accepted, block-refused}
+use Rattle.block.specs.Accepted.{block-accepted, block-refused}
+use Rattle.record.specs.Shape.{PairLists}
 use lib.ListN.{length-map}
 use mathlib.Core.Path.{_∙_, sym}
 use borrow.Author.Needs.{needs}
@@ -14,7 +15,7 @@ lists : (c : tie.Start) → let r = c .args .t1 in PairLists (r .links .link) (r
 lists c =
     let links = c .good .0 .1 .1 .1 .1 .1 .0 .1 .1 in
     let schedule = c .good .0 .1 .1 .1 .1 .1 .1 .0 .1 .1 in
-    record { link-size = simp length-map at (links .0 .1 .0 .1); loss-size = simp length-map at (links .1 .0 .1 .0 .1); kw-size = simp length-map at (schedule .0 .1 .0 .1); rank-size = simp length-map at (schedule .1 .0 .1 .0 .1) }
+    record { links = record { link = simp length-map at (links .0 .1 .0 .1); loss = simp length-map at (links .1 .0 .1 .0 .1) }; schedule = record { kw = simp length-map at (schedule .0 .1 .0 .1); rank = simp length-map at (schedule .1 .0 .1 .0 .1) } }
 
 enter-requires : tie.Need-enter-requires
 enter-requires c κs = (lists (c .before .before .before .before .before .before .before .before .before .before .before .before .before .before .before .before .before .before .before .before .before), sym (c .before .before .before .before .before .before .before .refusal-on .ensures) ∙ c .before .before .before .before .before .before .if1 .taken)

@@ -61,8 +61,8 @@ shape c =
     let consumers = totals .1 .0 .1 .1 in
     record {
       agreed = record { kind = simp length-map at (agreed .0 .1 .0 .1); installed = simp length-map at (agreed .1 .0 .1 .0 .1); contracted = simp length-map at (agreed .1 .1 .0 .1 .0 .1) };
-      links = record { link = lists .link-size; loss = lists .loss-size };
-      schedule = record { kw = lists .kw-size; rank = lists .rank-size };
+      links = lists .links;
+      schedule = lists .schedule;
       generators =
           record {
             injected = simp length-map at (generators .0 .1 .0 .1);

@@ -12,8 +12,10 @@ refusal-on-requires c κs = search needs
 close-on-requires : tie.Need-close-on-requires
 close-on-requires c κs =
     let fields = c .before .before .before .before .before .before .before .before .before .before .before .before .before .before .before .before .before .before .before .good .0 .1 .1 .1 .1 .1 in (
-      record { link = simp length-map at (fields .0 .1 .1 .0 .1 .0 .1); loss = simp length-map at (fields .0 .1 .1 .1 .0 .1 .0 .1) },
-      record { kw = simp length-map at (fields .1 .0 .1 .1 .0 .1 .0 .1); rank = simp length-map at (fields .1 .0 .1 .1 .1 .0 .1 .0 .1) },
+      record {
+        links = record { link = simp length-map at (fields .0 .1 .1 .0 .1 .0 .1); loss = simp length-map at (fields .0 .1 .1 .1 .0 .1 .0 .1) };
+        schedule = record { kw = simp length-map at (fields .1 .0 .1 .1 .0 .1 .0 .1); rank = simp length-map at (fields .1 .0 .1 .1 .1 .0 .1 .0 .1) };
+      },
       sym (c .before .before .before .before .before .before .before .refusal-on .ensures) ∙ c .before .before .before .before .before .before .if1 .taken,
     )
 

@@ -24,13 +24,13 @@ abbrev whole : tie.Start → Record
 whole c = let a = c .args in recordFrom (a .terms) (a .counts) (a .agreed) (a .link .now) (a .loss .now) (a .kw .now) (a .rank .now) (a .generators) (a .consumers)
 
 credit-requires : tie.Need-credit-requires
-credit-requires c κs = creditable (whole (c .before .before .before .before)) _ (c .before .before .before .before .pre .2)
+credit-requires c κs = creditable (whole (c .before .before .before .before)) _ (c .before .before .before .before .pre .1)
 
 draw-all-requires : tie.Need-draw-all-requires
-draw-all-requires c κs = drawable (whole (c .before .before .before .before .before .before .before)) _ (c .before .before .before .before .before .before .before .pre .2)
+draw-all-requires c κs = drawable (whole (c .before .before .before .before .before .before .before)) _ (c .before .before .before .before .before .before .before .pre .1)
 
 cycle-ends-requires : tie.Need-cycle-ends-requires
-cycle-ends-requires c κs = gone-few (whole (c .before .before .before .before .before .before .before .before .before .before)) _ (c .before .before .before .before .before .before .before .before .before .before .pre .2)
+cycle-ends-requires c κs = gone-few (whole (c .before .before .before .before .before .before .before .before .before .before)) _ (c .before .before .before .before .before .before .before .before .before .before .pre .1)
 
 lapse-requires : tie.Need-lapse-requires
 lapse-requires c κs = search needs
@@ -43,13 +43,13 @@ month-so : (c : tie.After-lapse) → month c ≡ monthIn (whole (c .before .befo
 month-so c = let a = c .before .before .before .before .before .before .before .before .before .before .before .before .args in steps-are (a .terms) (a .counts) (a .link .now) (a .rank .now) (a .generators .bank) (a .generators .pending) (a .consumers .outstanding) (c .before .before .before .before .before .before .before .credit .ensures) (c .before .before .before .before .draw-all .ensures) (c .before .cycle-ends .ensures) (c .lapse .ensures)
 
 room : (c : tie.After-lapse) → RecordRoom (whole (c .before .before .before .before .before .before .before .before .before .before .before .before)) (month c)
-room c = record-room _ _ (c .before .before .before .before .before .before .before .before .before .before .before .before .pre .2) _ (month-so c)
+room c = record-room _ _ (c .before .before .before .before .before .before .before .before .before .before .before .before .pre .1) _ (month-so c)
 
 write-lists-requires : tie.Need-write-lists-requires
-write-lists-requires c κs = let z = c .before .before .before .before .before .before .before .before .before .before .before .before .before .before .before .before .before .before .pre .2 in record { size = output-size _ _ z; rows = generators-few _ _ z; columns = consumers-few _ _ z }
+write-lists-requires c κs = let z = c .before .before .before .before .before .before .before .before .before .before .before .before .before .before .before .before .before .before .pre .1 in record { size = output-size _ _ z; rows = generators-few _ _ z; columns = consumers-few _ _ z }
 
 months-gone-requires : tie.Need-months-gone-requires
-months-gone-requires c κs = gone-few (whole (c .before .before .before .before .before .before .before .before .before .before .before .before .before .before .before .before .before .before .before .before .before .before .before)) _ (c .before .before .before .before .before .before .before .before .before .before .before .before .before .before .before .before .before .before .before .before .before .before .before .pre .2)
+months-gone-requires c κs = gone-few (whole (c .before .before .before .before .before .before .before .before .before .before .before .before .before .before .before .before .before .before .before .before .before .before .before)) _ (c .before .before .before .before .before .before .before .before .before .before .before .before .before .before .before .before .before .before .before .before .before .before .before .pre .1)
 
 less8-requires : tie.Need-less8-requires
 less8-requires c κs = bank-falls _ _ _ (c .before .before .before .before .before .before .before .before .before .before .before .before .before .before .before .before .draw-all .ensures)
@@ -75,8 +75,8 @@ shape c =
     let consumers = totals .1 .0 .1 .1 in
     record {
       agreed = record { kind = simp length-map at (agreed .0 .1 .0 .1); installed = simp length-map at (agreed .1 .0 .1 .0 .1); contracted = simp length-map at (agreed .1 .1 .0 .1 .0 .1) };
-      links = c .pre .0;
-      schedule = c .pre .1;
+      links = c .pre .0 .links;
+      schedule = c .pre .0 .schedule;
       generators =
           record {
             injected = simp length-map at (generators .0 .1 .0 .1);
@@ -114,7 +114,7 @@ returns c =
     let gone = c .before .before .before .before .months-gone .ensures in
     let generators = rw (c .before .before .before .less8 .ensures) at (c .before .before .generators-after .ensures) in
     let consumers = rw (c .before .less16 .ensures) at (c .consumers-after .ensures) in
-    record { record-is = same-parts _ _ _ _ _ _ gone generators consumers ∙ record-after _ _ (s .pre .2) _ x (shape s); output-is = c .before .before .before .before .before .before .before .before .before .write-lists .ensures ∙ output-after _ _ (s .pre .2) _ x }
+    record { record-is = same-parts _ _ _ _ _ _ gone generators consumers ∙ record-after _ _ (s .pre .1) _ x (shape s); output-is = c .before .before .before .before .before .before .before .before .before .write-lists .ensures ∙ output-after _ _ (s .pre .1) _ x }
 
 pub close-on-spec : {M : Type 1} → statement M
 close-on-spec =

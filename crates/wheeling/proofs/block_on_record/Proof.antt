@@ -2,7 +2,7 @@
 use borrow.Author.Needs.{needs}
 use mathlib.Core.Path.{_∙_, sym}
 use native.Mathlib.Omega.{arith}
-use Rattle.block.specs.Accepted.{PairLists, block-accepted, block-refused}
+use Rattle.block.specs.Accepted.{block-accepted, block-refused}
 use Rattle.wheeling.specs.PartsLaws.{pairs-size, parts-read, made-accepted, made-refused}
 use Rattle.wheeling.proofs.block_on_record.Statement.{statement}
 use Rattle.wheeling.proofs.block_on_record.Tie as tie
@@ -38,7 +38,7 @@ refusal-on-requires : tie.Need-refusal-on-requires
 refusal-on-requires c κs = search needs
 
 enter-requires : tie.Need-enter-requires
-enter-requires c κs = (record { link-size = pairs-size _ 31 (omega arith) (c .before .before .before .before .before .before .before .before .before .before .before .before .before .before .before .before .before .before .before .before .before .load-pairs .ensures); loss-size = pairs-size _ 159 (omega arith) (c .before .before .before .before .before .before .before .before .before .before .before .before .before .before .before .before .before .before .before .load-pairs2 .ensures); kw-size = pairs-size _ 287 (omega arith) (c .before .before .before .before .before .before .before .before .before .before .before .before .before .before .before .before .before .load-pairs3 .ensures); rank-size = pairs-size _ 415 (omega arith) (c .before .before .before .before .before .before .before .before .before .before .before .before .before .before .before .load-pairs4 .ensures) }, sym (c .before .before .before .before .before .before .refusal-on .ensures) ∙ c .before .before .before .before .before .if1 .taken)
+enter-requires c κs = (record { links = record { link = pairs-size _ 31 (omega arith) (c .before .before .before .before .before .before .before .before .before .before .before .before .before .before .before .before .before .before .before .before .before .load-pairs .ensures); loss = pairs-size _ 159 (omega arith) (c .before .before .before .before .before .before .before .before .before .before .before .before .before .before .before .before .before .before .before .load-pairs2 .ensures) }; schedule = record { kw = pairs-size _ 287 (omega arith) (c .before .before .before .before .before .before .before .before .before .before .before .before .before .before .before .before .before .load-pairs3 .ensures); rank = pairs-size _ 415 (omega arith) (c .before .before .before .before .before .before .before .before .before .before .before .before .before .before .before .load-pairs4 .ensures) } }, sym (c .before .before .before .before .before .before .refusal-on .ensures) ∙ c .before .before .before .before .before .if1 .taken)
 
 store-totals-requires : tie.Need-store-totals-requires
 store-totals-requires c κs = c .before .before .before .before .before .before .before .before .before .before .before .before .before .before .before .before .before .before .before .before .before .before .before .before .before .before .before .before .before .before .before .before .before .before .before .before .before .before .before .before .pre

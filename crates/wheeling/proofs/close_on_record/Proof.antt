@@ -38,7 +38,7 @@ refusal-on-requires : tie.Need-refusal-on-requires
 refusal-on-requires c κs = search needs
 
 close-on-requires : tie.Need-close-on-requires
-close-on-requires c κs = (record { link = pairs-size _ 31 (omega arith) (c .before .before .before .before .before .before .before .before .before .before .before .before .before .before .before .before .before .before .before .before .before .load-pairs .ensures); loss = pairs-size _ 159 (omega arith) (c .before .before .before .before .before .before .before .before .before .before .before .before .before .before .before .before .before .before .before .load-pairs2 .ensures) }, record { kw = pairs-size _ 287 (omega arith) (c .before .before .before .before .before .before .before .before .before .before .before .before .before .before .before .before .before .load-pairs3 .ensures); rank = pairs-size _ 415 (omega arith) (c .before .before .before .before .before .before .before .before .before .before .before .before .before .before .before .load-pairs4 .ensures) }, sym (c .before .before .before .before .before .before .refusal-on .ensures) ∙ c .before .before .before .before .before .if1 .taken)
+close-on-requires c κs = (record { links = record { link = pairs-size _ 31 (omega arith) (c .before .before .before .before .before .before .before .before .before .before .before .before .before .before .before .before .before .before .before .before .before .load-pairs .ensures); loss = pairs-size _ 159 (omega arith) (c .before .before .before .before .before .before .before .before .before .before .before .before .before .before .before .before .before .before .before .load-pairs2 .ensures) }; schedule = record { kw = pairs-size _ 287 (omega arith) (c .before .before .before .before .before .before .before .before .before .before .before .before .before .before .before .before .before .load-pairs3 .ensures); rank = pairs-size _ 415 (omega arith) (c .before .before .before .before .before .before .before .before .before .before .before .before .before .before .before .load-pairs4 .ensures) } }, sym (c .before .before .before .before .before .before .refusal-on .ensures) ∙ c .before .before .before .before .before .if1 .taken)
 
 store-totals-requires : tie.Need-store-totals-requires
 store-totals-requires c κs = c .before .before .before .before .before .before .before .before .before .before .before .before .before .before .before .before .before .before .before .before .before .before .before .before .before .before .before .before .before .before .before .before .before .before .before .before .before .before .pre
