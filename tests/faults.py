@@ -80,9 +80,9 @@ FAULTS = {
         ("settlement/src/lib.rt", "let shortfall = second.taken;", "let shortfall = second.rest;"),
     # closing
     "closing: open not reset":
-        ("closing/src/lib.rt", "let outstanding = [0u64; 16];", "let outstanding = t.outstanding;"),
+        ("closing/src/lib.rt", "    after.outstanding = none;\n", ""),
     "closing: pending not reset":
-        ("closing/src/lib.rt", "let pending = [0u64; 8];", "let pending = t.pending;"),
+        ("closing/src/lib.rt", "    after.pending = none;\n", ""),
     "closing: lapsed and bank swapped in the output":
         ("closing/src/lib.rt", "arrays::put8(out, second, &lapsed, n);\n"
          "    arrays::put8(out, third, &balance, n);",
@@ -111,12 +111,12 @@ FAULTS = {
          "MOST_UNIT_BLOCKS: u64 = 9_999_999"),
     "sound: totals by age one low":
         ("record/src/lib.rt",
-         "limit_at(inside, energy::MOST_READING * blocks);\n    let split = capped(x.unaccounted)",
-         "limit_at(inside, 199_999_999 * blocks);\n    let split = capped(x.unaccounted)"),
+         "energy::MOST_READING * blocks;\n        let split = capped(x.unaccounted)",
+         "199_999_999 * blocks;\n        let split = capped(x.unaccounted)"),
     "sound: totals by age one high":
         ("record/src/lib.rt",
-         "limit_at(inside, energy::MOST_READING * blocks);\n    let split = capped(x.unaccounted)",
-         "limit_at(inside, energy::MOST_READING * blocks + 1);\n    let split = capped(x.unaccounted)"),
+         "energy::MOST_READING * blocks;\n        let split = capped(x.unaccounted)",
+         "energy::MOST_READING * blocks + 1;\n        let split = capped(x.unaccounted)"),
     "sound: kW on an unlinked pair allowed":
         ("record/src/lib.rt", "((link == 1) | (kw == 0))", "((link <= 1) | (kw == 0))"),
     "sound: rank 256 allowed":
@@ -127,9 +127,9 @@ FAULTS = {
         ("record/src/lib.rt", "generator_sound(blocks, g < n, x)",
          "generator_sound(blocks, g < 8, x)"),
     "sound: pairs beyond C allowed":
-        ("record/src/lib.rt", "rank, start + m, start + 16)", "rank, start + 16, start + 16)"),
+        ("record/src/lib.rt", "rank, start + m, 16 - m)", "rank, start + m, 0)"),
     "sound: pairs beyond G allowed":
-        ("record/src/lib.rt", "rank, n * 16, 128)", "rank, 128, 128)"),
+        ("record/src/lib.rt", "rank, n * 16, 128 - n * 16)", "rank, n * 16, 0)"),
     # bytes
     "bytes: two bytes of an output swapped":
         ("codec/src/lib.rt", "s[b] = (w % 256) as u8;\n    s[b + 1] = (w1 % 256) as u8;",
