@@ -153,8 +153,6 @@ FAULTS = {
 
 # Faults that no C call can show, and why.
 EQUIVALENT = {
-    "energy/energy_limit_one_high":
-        "the share step tests K once more, but a block has refused such readings with 10",
     "block/record_untouched":
         "the edit is in the call on a record by value; the C calls store what `enter` gives",
     "closing/record_untouched":
