@@ -23,7 +23,7 @@
  * Answers
  *   Each call returns a number from the table below: 0 is accepted; of several refusals that apply, the lowest.
  *   A refused call leaves every byte as it was, those of the record and of the output included.
- *   An accepted call writes the whole record in place and every number of the output.
+ *   After an accepted call the record's bytes are the record after it, and every number of the output is written.
  *
  * What a host must see to
  *   - Pointers are valid for the lengths given. A null pointer is allowed where the length is 0.
