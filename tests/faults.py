@@ -4,10 +4,11 @@
     faults.py [NAME...]        (all faults, or those whose names hold one of the words)
 
 Each fault is one small change in a copy of the crates' source. The copy is compiled without its
-proofs, which refuse it (unproved.py), and compare.py runs on it as in the gate: fixed cases, 2,000
-lists, 200 months. Faults are the edits of crates/*/must-fail that change code of the library, and
-those listed below. For each fault it is printed where the first difference showed. Ends with 1 if
-the unchanged copy differs, if a fault survives, or if a fault that cannot show does show.
+proofs, which refuse it (unproved.py), and the test program runs on it as in the gate: compare.py on
+the C calls, reader.py on the reader of the readings table. Faults are the edits of
+crates/*/must-fail that change code of one of the two, and those listed below. For each fault it is
+printed where the first difference showed. Ends with 1 if the unchanged copy differs, if a fault
+survives, or if a fault that cannot show does show.
 """
 
 import re
@@ -18,8 +19,24 @@ import tempfile
 import time
 from collections import Counter
 from pathlib import Path
+from typing import NamedTuple, Optional
 
 from unproved import LIBRARY, REPOSITORY, NotCompiled, compile_unproved, reached_by
+
+
+class Tested(NamedTuple):
+    """What is compiled of the changed copy, and the test program that must find the change."""
+    what: str
+    program: str
+    library: str
+    root: Optional[Path]  # the file with the C calls, where the library has none
+
+    def crates(self):
+        return reached_by(self.library) + [self.library]
+
+
+CALLS = Tested("the C calls", "compare.py", LIBRARY, None)
+READER = Tested("the reader", "reader.py", "table", REPOSITORY / "tests" / "reader.rt.in")
 
 # Name: file under crates/, old text, new text.
 FAULTS = {
@@ -149,6 +166,93 @@ FAULTS = {
     "bytes: consumers stored one place early":
         ("layout/src/lib.rt", "store16(supplied, s, CONSUMERS + 64);",
          "store16(supplied, s, CONSUMERS + 63);"),
+    # reader: sizes and names
+    "reader: G = 9 allowed":
+        ("table/src/lib.rt", "if 8 < g {", "if 9 < g {"),
+    "reader: G = 8 refused":
+        ("table/src/lib.rt", "if 8 < g {", "if 7 < g {"),
+    "reader: C = 0 allowed":
+        ("table/src/lib.rt", "if c < 1 {", "if c < 0 {"),
+    "reader: C = 17 allowed":
+        ("table/src/lib.rt", "c <= 16", "c <= 17"),
+    "reader: lowest byte of G looked at":
+        ("table/src/lib.rt", "    if g < 1 {", "    let g = g % 256;\n    if g < 1 {",
+         "put_names(g as usize,", "put_names((g % 256) as usize,",
+         "let w = (g + c) as usize;", "let w = (g % 256 + c) as usize;"),
+    "reader: last byte of the names line not compared":
+        ("table/src/lib.rt", "while i < line.len() {", "while i + 1 < line.len() {"),
+    "reader: names line compared beyond the text":
+        ("table/src/lib.rt", "if text.len() < line.len() {", "if text.len() + 1 < line.len() {"),
+    "reader: numbers of consumers go on from the generators'":
+        ("table_text/src/lib.rt", "(j - g + 1) as u64", "(j + 1) as u64"),
+    "reader: name of the tenth consumer in one digit":
+        ("table_text/src/lib.rt", "if n < 10 {", "if n <= 10 {"),
+    # reader: values and lines
+    "reader: highest value refused":
+        ("table/src/lib.rt", "m <= 4_294_967_295 {", "m < 4_294_967_295 {"),
+    "reader: values by 2^32":
+        ("table/src/lib.rt", "if m <= 4_294_967_295 {", "if n <= 4_294_967_295 {"),
+    "reader: values up to 2^33":
+        ("table/src/lib.rt", "m <= 4_294_967_295 {", "m <= 8_589_934_591 {"),
+    "reader: byte after 9 taken for a digit":
+        ("table/src/lib.rt", "b <= b'9'", "b <= b':'"),
+    "reader: byte before 0 taken for a digit":
+        ("table/src/lib.rt", "if b < b'0' {", "if b < b'/' {"),
+    "reader: empty value read as 0":
+        ("table/src/lib.rt", "fn first_byte(b: u8) ", "fn first_byte(b: u8, sep: u8) ",
+         "firstByte b ⌝ }\n{", "firstByte b ⌝ }\n{\n    if b == sep {\n"
+         "        return Progress::Start;\n    }", "=> first_byte(b),", "=> first_byte(b, sep),"),
+    "reader: comma and line feed alike":
+        ("table/src/lib.rt", "if b == sep {", "if (b == b',') | (b == b'\\n') {"),
+    "reader: semicolon for a comma allowed":
+        ("table/src/lib.rt", "if b == sep {", "if (b == sep) | ((b == b';') & (sep == b',')) {"),
+    "reader: carriage return passed over":
+        ("table/src/lib.rt", "    if b == sep {",
+         "    if b == 13 {\n        return Progress::Digits(n);\n    }\n    if b == sep {",
+         "valuesEnded b ⌝ }\n{",
+         "valuesEnded b ⌝ }\n{\n    if b == 13 {\n        return 0;\n    }"),
+    "reader: no last line feed allowed":
+        ("table/src/lib.rt", "Progress::Digits(_) => false",
+         "Progress::Digits(_) => k % w == w - 1"),
+    "reader: last line with too few values allowed":
+        ("table/src/lib.rt", "k % w == 0", "k % w <= w"),
+    "reader: lines past 64 KiB not tested":
+        ("table/src/lib.rt", "    while i < s.len() {\n        let b = s[i];\n        let sep",
+         "    while (i < s.len()) & (i < 65_536) {\n        let b = s[i];\n        let sep"),
+    "reader: line count in 16 bits":
+        ("table/src/lib.rt", "Read::Lines(lines)", "Read::Lines(lines % 65_536)"),
+    # reader: output and order
+    "reader: room one low":
+        ("table/src/lib.rt", "out.len() < k", "out.len() < k + 1"),
+    "reader: room one high":
+        ("table/src/lib.rt", "out.len() < k", "out.len() + 1 < k"),
+    "reader: last place of a full output left":
+        ("table/src/lib.rt", "if !is_digit(b) {", "if !is_digit(b) & (k + 1 < out.len()) {"),
+    "reader: rest of the output cleared":
+        ("table/src/lib.rt", "    let lines = count_lines(w, k);",
+         "    let mut rest = k;\n    while rest < out.len() {\n        out[rest] = 0;\n"
+         "        rest += 1;\n    }\n    let lines = count_lines(w, k);"),
+    "reader: value written on refusal 15":
+        ("table/src/lib.rt", "        return Read::Refused(15);",
+         "        if 0 < out.len() {\n            out[0] = 0;\n        }\n"
+         "        return Read::Refused(15);"),
+    "reader: value written on refusal 16":
+        ("table/src/lib.rt", "        return Read::Refused(16);",
+         "        if 0 < out.len() {\n            out[out.len() - 1] = 0;\n        }\n"
+         "        return Read::Refused(16);"),
+    "reader: refusal 16 before 15":
+        ("table/src/lib.rt", "    if !well_formed(w, s) {",
+         "    if out.len() < count_values(s) {\n        return Read::Refused(16);\n    }\n"
+         "    if !well_formed(w, s) {"),
+    "reader: refusal 15 before 14":
+        ("table/src/lib.rt", "        return Read::Refused(14);",
+         "        if 0 < text.len() {\n            if text[text.len() - 1] != b'\\n' {\n"
+         "                return Read::Refused(15);\n            }\n        }\n"
+         "        return Read::Refused(14);"),
+    "reader: refusal 14 before 2":
+        ("table/src/lib.rt", "    if !in_range(g, c) {",
+         "    if text.len() == 0 {\n        return Read::Refused(14);\n    }\n"
+         "    if !in_range(g, c) {"),
 }
 
 # Faults that no C call can show, and why.
@@ -159,8 +263,11 @@ EQUIVALENT = {
         "the edit is in the call on a record by value; the C calls store what `close_on` gives",
 }
 
-FOUND = re.compile(r"^DIFFERENCE in (.*), call \d+ of it \((\w+)\), (\d+) calls after the start",
-                   re.MULTILINE)
+# The line of compare.py, and that of reader.py, which knows one call only.
+FOUND = re.compile(r"^DIFFERENCE in (.*?)(?:, call \d+ of it \((\w+)\))?, (\d+) calls after "
+                   "the start", re.MULTILINE)
+# How the names of what is not a fixed case begin.
+STAGES = {"lists": "random list", "months": "random month", "texts": "random text"}
 
 
 def edited(text, pairs, where):
@@ -171,9 +278,13 @@ def edited(text, pairs, where):
     return text
 
 
-def must_fail_edits(crates):
-    """The must-fail edits of these crates that change code: name, {file: pairs}."""
-    for crate in crates:
+def tested_in(crate):
+    return CALLS if crate in CALLS.crates() else READER
+
+
+def must_fail_edits():
+    """The must-fail edits that change code under test: name, what is tested, {file: pairs}."""
+    for crate in dict.fromkeys(CALLS.crates() + READER.crates()):
         for path in sorted((REPOSITORY / "crates" / crate / "must-fail").glob("*.edit")):
             files, file, old = {}, None, None
             for line in path.read_text().splitlines():
@@ -184,44 +295,45 @@ def must_fail_edits(crates):
                 elif line.startswith("new:"):
                     files.setdefault(file, []).append((old, line[len("new:"):].removeprefix(" ")))
             if all(file.startswith(crate + "/src/") for file in files):
-                yield f"{crate}/{path.stem}", files
+                yield f"{crate}/{path.stem}", tested_in(crate), files
 
 
 def own_faults():
     for name, (file, *texts) in FAULTS.items():
-        yield name, {file: list(zip(texts[0::2], texts[1::2]))}
+        yield name, tested_in(file.split("/")[0]), {file: list(zip(texts[0::2], texts[1::2]))}
 
 
-def compared(folder, files):
-    """What compare.py says of a library compiled from the source with these edits."""
+def compared(folder, tested, files):
+    """What the test program says of a library compiled from the source with these edits."""
     crates = folder / "crates"
     shutil.copytree(REPOSITORY / "crates", crates,
                     ignore=shutil.ignore_patterns("proofs", "specs", "must-fail"))
     for file, pairs in files.items():
         path = crates / file
         path.write_text(edited(path.read_text(), pairs, file))
-    compile_unproved(folder / "calls.o", crates)
+    compile_unproved(folder / "calls.o", crates, library=tested.library, root=tested.root)
     library = folder / "calls.so"
     subprocess.run(["gcc", "-shared", "-o", library, folder / "calls.o"], check=True)
-    done = subprocess.run([sys.executable, "-B", REPOSITORY / "tests" / "compare.py", library,
+    done = subprocess.run([sys.executable, "-B", REPOSITORY / "tests" / tested.program, library,
                            "--unshrunk"], capture_output=True, text=True)
     return done.returncode, done.stdout + done.stderr
 
 
-def tried(files):
+def tried(tested, files):
     """One word for the summary, and the line to print."""
     begun = time.monotonic()
     with tempfile.TemporaryDirectory() as folder:
         try:
-            status, said = compared(Path(folder), files)
+            status, said = compared(Path(folder), tested, files)
         except NotCompiled as fault:
             return "failed", f"NOT TRIED {fault}"
     found = FOUND.search(said)
     if status == 1 and found:
         where, call, calls = found.groups()
-        stage = "lists" if where.startswith("random list") else \
-            "months" if where.startswith("random month") else "fixed cases"
-        return stage, f"{calls:>6} calls, {call} in {where} ({time.monotonic() - begun:.0f} s)"
+        stage = next((stage for stage, start in STAGES.items() if where.startswith(start)),
+                     "fixed cases")
+        return stage, (f"{calls:>6} calls, " + (f"{call} in " if call else "")
+                       + f"{where} ({time.monotonic() - begun:.0f} s)")
     if status == 0:
         return "none", "no difference"
     return "failed", "NOT TRIED " + said.strip()[-500:]
@@ -229,20 +341,26 @@ def tried(files):
 
 def main():
     words = sys.argv[1:]
-    faults = [*must_fail_edits(reached_by(LIBRARY) + [LIBRARY]), *own_faults()]
+    faults = [fault for fault in (*must_fail_edits(), *own_faults())
+              if not words or any(word in fault[0] for word in words)]
+    if not faults:
+        print("no fault has such a name")
+        return 1
+    # The unchanged copy must not differ: otherwise a difference below would say nothing.
+    unchanged = [(f"{tested.what}, unchanged", tested, {}) for tested in (CALLS, READER)
+                 if any(fault[1] == tested for fault in faults)]
     stages, wrong = Counter(), []
-    for name, files in [("the source as it stands", {}), *faults]:
-        if files and words and not any(word in name for word in words):
-            continue
-        stage, line = tried(files)
+    for name, tested, files in unchanged + faults:
+        stage, line = tried(tested, files)
         why = f": {EQUIVALENT[name]}" if name in EQUIVALENT else ""
         print(f"{name}: {line}{why}", flush=True)
         if stage == "failed" or (stage == "none") != (not files or name in EQUIVALENT):
             wrong.append(name)
         elif files:
             stages[stage] += 1
-    print(f"{sum(stages.values())} faults: found in fixed cases {stages['fixed cases']}, in lists "
-          f"{stages['lists']}, in months {stages['months']}; {stages['none']} that cannot show")
+    print(f"{sum(stages.values())} faults: found in fixed cases {stages['fixed cases']}, "
+          + ", ".join(f"in {stage} {stages[stage]}" for stage in STAGES)
+          + f"; {stages['none']} that cannot show")
     for name in wrong:
         print(f"WRONG: {name}")
     return 1 if wrong else 0

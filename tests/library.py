@@ -18,12 +18,13 @@ class Lent:
     """Memory lent to the library. Guard bytes stand before it; after it stand guard bytes or,
     if it is lent at the end, a page that faults when read or written."""
 
-    def __init__(self):
-        self.memory = mmap.mmap(-1, MOST_LENT + mmap.PAGESIZE)
+    def __init__(self, most=MOST_LENT):
+        self.most = most
+        self.memory = mmap.mmap(-1, most + mmap.PAGESIZE)
         self.address = ctypes.addressof(ctypes.c_char.from_buffer(self.memory))
         protect = ctypes.CDLL(None, use_errno=True).mprotect
         protect.argtypes = (ctypes.c_void_p, ctypes.c_size_t, ctypes.c_int)
-        if protect(self.address + MOST_LENT, mmap.PAGESIZE, NO_ACCESS) != 0:
+        if protect(self.address + most, mmap.PAGESIZE, NO_ACCESS) != 0:
             raise OSError(ctypes.get_errno(), "mprotect")
         self.view = memoryview(self.memory)
         self.start = self.end = 0
@@ -32,11 +33,11 @@ class Lent:
         """Gives the address. A shift moves the start, since bytes may be lent at any address;
         without one the memory is lent at the end. None is lent as a null pointer."""
         length = len(data or b"")
-        self.start = MOST_LENT - length if shift is None else len(GUARD) + shift
+        self.start = self.most - length if shift is None else len(GUARD) + shift
         self.end = self.start + length
         self.view[self.start - len(GUARD):self.start] = GUARD
         self.view[self.start:self.end] = data or b""
-        if self.end < MOST_LENT:
+        if self.end < self.most:
             self.view[self.end:self.end + len(GUARD)] = GUARD
         return None if data is None else self.address + self.start
 
@@ -46,7 +47,7 @@ class Lent:
     def guards_whole(self):
         before = self.view[self.start - len(GUARD):self.start]
         after = self.view[self.end:self.end + len(GUARD)]
-        return before == GUARD and (self.end == MOST_LENT or after == GUARD)
+        return before == GUARD and (self.end == self.most or after == GUARD)
 
 
 class Library:

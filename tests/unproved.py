@@ -1,12 +1,18 @@
 #!/usr/bin/env python3
 """Compiles the library's source without its proofs, with the kit's own back end and flags.
 
-    unproved.py OBJECT.o [--crates FOLDER] [--prefix NAME] [--flag=FLAG]...
+    unproved.py OBJECT.o [--crates FOLDER] [--library NAME [--root FILE]] [--prefix NAME]
+                [--flag=FLAG]...
 
-For tests of the tests only: nothing made here is proved and nothing made here is delivered. The
-faults of faults.py are compiled by it from a changed copy of crates/, and the fuzzer's guide from
-the source as it stands, with the compiler's coverage flags added. --prefix puts NAME before the
-names of the C calls, so that the object can be linked beside the proved library.
+For tests only: nothing made here is proved and nothing made here is delivered. The faults of
+faults.py are compiled by it from a changed copy of crates/. From the source as it stands are
+compiled the reader for reader.py, and the fuzzer's guide, with the compiler's coverage flags added.
+--prefix puts NAME before the names of the C calls, so that the object can be linked beside the
+proved library.
+
+The library is the crate with the C calls, `wheeling` unless given. One that has none, as the
+reader's, is called by a file outside crates/ that has them: --root. Its name does not end in .rt,
+since the kit lets no such file stand outside the proved crates.
 
 The kit compiles only a proved library, but it runs a program unproved (`rt try`). So the library's
 root becomes a program that does nothing, the compiler that the kit then calls is a script that
@@ -130,27 +136,37 @@ def visible(module, library, names, prefix):
     return module.replace("define i32 @main(", "define internal i32 @main(")
 
 
-def compile_unproved(target, crates=REPOSITORY / "crates", prefix="", flags=()):
-    """Writes one object file with the four C calls of the source under `crates`."""
+def compile_unproved(target, crates=REPOSITORY / "crates", prefix="", flags=(), library=LIBRARY,
+                     root=None):
+    """Writes one object file with the C calls of a library under `crates`, or of the file `root`
+    over that library."""
     kit = Kit()
+    used = reached_by(library) + ([library] if root else [])
+    crate_name = root.name.split(".")[0] if root else library
     with tempfile.TemporaryDirectory() as name:
         work = Path(name)
         kit.keeping_toolchain(work / "toolchain", work)
-        shutil.copytree(crates / LIBRARY / "src", work / "src")
-        source = (work / "src" / "lib.rt").read_text()
-        (work / "src" / "lib.rt").unlink()
+        if root:
+            (work / "src").mkdir()
+            source = root.read_text()
+        else:
+            shutil.copytree(crates / library / "src", work / "src")
+            source = (work / "src" / "lib.rt").read_text()
+            (work / "src" / "lib.rt").unlink()
+        names = [name for name, _ in EXPORTED.findall(source)]
+        if not names:
+            raise NotCompiled(f"{crate_name} has no C calls")
         (work / "src" / "main.rt").write_text(source + "\nfn main() {}\n")
         words = ["--lib", f"std={kit.std}"]
-        for crate in reached_by(LIBRARY):
+        for crate in used:
             words += ["--lib", f"{crate}={crates / crate / 'src' / 'lib.rt'}"]
         run(kit.run_unproved, "--toolchain", work / "toolchain", work / "src" / "main.rt",
-            "--crate-name", LIBRARY, *words, cwd=work)
+            "--crate-name", crate_name, *words, cwd=work)
 
         run(kit.clang, "-x", "ir", work / "module.bc", "-S", "-emit-llvm", "-O1",
             "-Xclang", "-disable-llvm-passes", "-o", work / "module.ll")
-        names = [name for name, _ in EXPORTED.findall(source)]
         (work / "visible.ll").write_text(
-            visible((work / "module.ll").read_text(), LIBRARY, names, prefix))
+            visible((work / "module.ll").read_text(), crate_name, names, prefix))
         own_flags = (work / "flags").read_text().split("\n")[:-1]
         given = own_flags[:own_flags.index("-x")] + own_flags[own_flags.index("module.o") + 1:]
         run(kit.clang, *given, "-fPIC", *flags, "-c", "-x", "ir", work / "visible.ll",
@@ -166,12 +182,15 @@ def main():
     parser = argparse.ArgumentParser(description=__doc__.splitlines()[0])
     parser.add_argument("object")
     parser.add_argument("--crates", type=Path, default=REPOSITORY / "crates")
+    parser.add_argument("--library", default=LIBRARY)
+    parser.add_argument("--root", type=Path)
     parser.add_argument("--prefix", default="")
     parser.add_argument("--flag", action="append", default=[], help="for the kit's compiler")
     arguments = parser.parse_args()
     try:
         compile_unproved(arguments.object, arguments.crates.resolve(), arguments.prefix,
-                         arguments.flag)
+                         arguments.flag, arguments.library,
+                         arguments.root and arguments.root.resolve())
     except NotCompiled as fault:
         print(f"not compiled: {fault}")
         return 1
