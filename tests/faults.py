@@ -42,64 +42,68 @@ READER = Tested("the reader", "reader.py", "table", REPOSITORY / "tests" / "read
 FAULTS = {
     # opening
     "opening: gone equal to the cycle allowed":
-        ("agreement/src/lib.rt", "& (gone < cycle)", "& (gone <= cycle)"),
+        ("opening/src/lib.rt", "& (gone < cycle)", "& (gone <= cycle)"),
     "opening: kind 4 allowed":
-        ("agreement/src/lib.rt", "n, 0, record::LAST_KIND", "n, 0, 4"),
+        ("opening/src/lib.rt", "n, 0, record::LAST_KIND", "n, 0, 4"),
     "opening: links over 1 allowed":
-        ("agreement/src/lib.rt", "any_outside(pair_list, 0, count, 0, 1)",
+        ("opening/src/lib.rt", "any_outside(pair_list, 0, count, 0, 1)",
          "any_outside(pair_list, 0, count, 0, 2)"),
     "opening: rate of 5,001 allowed":
-        ("agreement/src/lib.rt", "record::MOST_RATE", "5_001"),
+        ("opening/src/lib.rt", "record::MOST_RATE", "5_001"),
     "opening: losses read from the links":
-        ("agreement/src/lib.rt", "spread(list, n * m, n, m)", "spread(list, 0, n, m)"),
+        ("opening/src/lib.rt", "spread(list, n * m, n, m)", "spread(list, 0, n, m)"),
     "opening: longer pair list allowed":
-        ("agreement/src/lib.rt", "pair_list.len() == 2 * (n * m)",
+        ("opening/src/lib.rt", "pair_list.len() == 2 * (n * m)",
          "2 * (n * m) <= pair_list.len()"),
     "opening: 16 consumers refused":
-        ("agreement/src/lib.rt", "(m <= 16)", "(m <= 15)"),
+        ("opening/src/lib.rt", "(m <= 16)", "(m <= 15)"),
     # schedule
     "schedule: refusal 8 before 7":
-        ("agreement/src/lib.rt", "first(unlinked, 7, lists::first(over, 8,",
+        ("schedule/src/lib.rt", "first(unlinked, 7, lists::first(over, 8,",
          "first(over, 8, lists::first(unlinked, 7,"),
     "schedule: rank 0 allowed":
-        ("agreement/src/lib.rt", "any_outside(ranks, 0, count, 1,",
+        ("schedule/src/lib.rt", "any_outside(ranks, 0, count, 1,",
          "any_outside(ranks, 0, count, 0,"),
     "schedule: kW on unlinked pairs allowed":
-        ("agreement/src/lib.rt", "(0 < kws[from + c])", "(400_000 < kws[from + c])"),
+        ("schedule/src/lib.rt", "(0 < kws[from + c])", "(400_000 < kws[from + c])"),
     "schedule: kW stored as ranks":
-        ("agreement/src/lib.rt", "let rank = spread(ranks, 0, n, m);",
-         "let rank = spread(kws, 0, n, m);"),
+        ("schedule/src/lib.rt", "spread(ranks, 0, n, m)", "spread(kws, 0, n, m)"),
     # block
     "block: reading limit one low":
-        ("block/src/lib.rt", "energy::MOST_READING < lists::wide", "199_999_999 < lists::wide"),
+        ("block_refusal/src/lib.rt", "energy::MOST_READING < lists::wide",
+         "199_999_999 < lists::wide"),
     "block: refusal 12 before 11":
-        ("block/src/lib.rt", "first(record::MOST_MONTH_BLOCKS <= counts.month, 11, unit_full)",
+        ("block_refusal/src/lib.rt",
+         "first(record::MOST_MONTH_BLOCKS <= counts.month, 11, unit_full)",
          "first(counts.blocks < record::MOST_UNIT_BLOCKS, "
          "lists::first(record::MOST_MONTH_BLOCKS <= counts.month, 11, 0), unit_full)"),
     "block: month blocks not raised":
-        ("block/src/lib.rt", "month: counts.month + 1", "month: counts.month"),
+        ("block_totals/src/lib.rt", "storing::add_at(s, layout_rules::COUNTS + 2, 1);",
+         "storing::add_at(s, layout_rules::COUNTS + 2, 0);"),
     "block: metered by remainder":
-        ("block/src/lib.rt", "arrays::add16(metered, exit)", "arrays::add16(metered, remainder)"),
+        ("block_totals/src/lib.rt", "raise_readings(s, layout_rules::CONSUMERS, exit);",
+         "raise_numbers(s, layout_rules::CONSUMERS, out, 4 * size + n, m);"),
     "block: shortfall listed as underdrawn":
-        ("block/src/lib.rt", "arrays::put_pairs(out, third, shortfall, n, m);",
-         "arrays::put_pairs(out, third, underdrawn, n, m);"),
+        ("block_settlement/src/lib.rt", "put_column(&mut out[third..fourth], n, m, c, shortfall);",
+         "put_column(&mut out[third..fourth], n, m, c, underdrawn);"),
     "block: all counted where nothing is scheduled":
-        ("delivery/src/lib.rt", "    if scheduled.0 == 0 {\n        return 0;",
+        ("block_counting/src/lib.rt", "    if scheduled.0 == 0 {\n        return 0;",
          "    if scheduled.0 == 0 {\n        return entry;"),
     "block: scheduled at exit without loss":
-        ("delivery/src/lib.rt", "scheduled.0 - lost.0 - delivered", "scheduled.0 - delivered"),
+        ("block_pair/src/lib.rt", "scheduled.0 - lost.0 - delivered", "scheduled.0 - delivered"),
     "block: loss to the nearest":
         ("energy/src/lib.rt", "rate + 9_999)", "rate + 5_000)"),
     "block: running shares rounded up":
-        ("energy/src/lib.rt", "(k * next / all - k * sum / all)",
-         "((k * next + all - 1) / all - (k * sum + all - 1) / all)"),
+        ("energy/src/lib.rt", "let share = k * sum / all;",
+         "let share = (k * sum + all - 1) / all;"),
     "block: shortfall is what is not used of it":
-        ("settlement/src/lib.rt", "let shortfall = second.taken;", "let shortfall = second.rest;"),
+        ("block_settlement/src/lib.rt", "c, &taken, &has, &short, rest)",
+         "c, &taken, &has, &gap, rest)"),
     # closing
     "closing: open not reset":
-        ("closing/src/lib.rt", "    after.outstanding = none;\n", ""),
+        ("closing_totals/src/lib.rt", "    after.outstanding = none;\n", ""),
     "closing: pending not reset":
-        ("closing/src/lib.rt", "    after.pending = none;\n", ""),
+        ("closing_totals/src/lib.rt", "    after.pending = none;\n", ""),
     "closing: lapsed and bank swapped in the output":
         ("closing/src/lib.rt", "arrays::put8(out, second, &lapsed, n);\n"
          "    arrays::put8(out, third, &balance, n);",
@@ -108,13 +112,14 @@ FAULTS = {
         ("closing/src/lib.rt", "arrays::put16(out, fourth, &outstanding, m);",
          "arrays::put16(out, fourth, &supplied, m);"),
     "closing: longer output allowed":
-        ("closing/src/lib.rt", "size == n * m + 3 * n + 2 * m", "n * m + 3 * n + 2 * m <= size"),
+        ("closing_refusal/src/lib.rt", "size == n * m + 3 * n + 2 * m",
+         "n * m + 3 * n + 2 * m <= size"),
     "closing: charge not taken from the bank":
         ("bank/src/lib.rt", "balance[g] += pending[g] - due.0;", "balance[g] += pending[g];"),
     "closing: all consumers draw what the first lacks":
         ("bank/src/lib.rt", "link, c, outstanding[c])", "link, c, outstanding[0])"),
     "closing: months gone not reset":
-        ("closing/src/lib.rt", "        0\n    } else {\n        counts.gone + 1",
+        ("closing_totals/src/lib.rt", "        0\n    } else {\n        counts.gone + 1",
          "        counts.gone\n    } else {\n        counts.gone + 1"),
     # soundness
     "sound: month blocks over unit blocks allowed":
@@ -141,12 +146,14 @@ FAULTS = {
     "sound: supplied counted for open":
         ("record/src/lib.rt", "+ capped(x.outstanding)", "+ capped(x.supplied)"),
     "sound: totals beyond G allowed":
-        ("record/src/lib.rt", "generator_sound(blocks, g < n, x)",
-         "generator_sound(blocks, g < 8, x)"),
+        ("soundness/src/lib.rt", "generator_sound(blocks, g < n, generator_terms(s, g))",
+         "generator_sound(blocks, g < 8, generator_terms(s, g))"),
     "sound: pairs beyond C allowed":
-        ("record/src/lib.rt", "rank, start + m, 16 - m)", "rank, start + m, 0)"),
+        ("soundness/src/lib.rt", "beyond_sound(s, start + m, 16 - m)",
+         "beyond_sound(s, start + m, 0)"),
     "sound: pairs beyond G allowed":
-        ("record/src/lib.rt", "rank, n * 16, 128 - n * 16)", "rank, n * 16, 0)"),
+        ("soundness/src/lib.rt", "beyond_sound(s, n * 16, 128 - n * 16)",
+         "beyond_sound(s, n * 16, 0)"),
     # bytes
     "bytes: two bytes of an output swapped":
         ("codec/src/lib.rt", "s[b] = (w % 256) as u8;\n    s[b + 1] = (w1 % 256) as u8;",
@@ -156,16 +163,17 @@ FAULTS = {
     "bytes: eighth byte not read":
         ("codec/src/lib.rt", "(b7 as u64) * 72_057_594_037_927_936", "(b7 as u64) * 0"),
     "bytes: link and loss swapped when stored":
-        ("layout/src/lib.rt", "store128(link, s, LINK);", "store128(link, s, LOSS);",
-         "store128(loss, s, LOSS);", "store128(loss, s, LINK);"),
+        ("storing/src/lib.rt", "store128(link, s, layout_rules::LINK);",
+         "store128(link, s, layout_rules::LOSS);",
+         "store128(loss, s, layout_rules::LOSS);", "store128(loss, s, layout_rules::LINK);"),
     "bytes: counts of a block stored one place late":
-        ("layout/src/lib.rt", "&mut s[32..56]", "&mut s[40..64]"),
+        ("storing/src/lib.rt", "&mut s[32..56]", "&mut s[40..64]"),
     "bytes: charge loaded from drawn":
-        ("layout/src/lib.rt", "let charge = load8(s, GENERATORS + 40);",
-         "let charge = load8(s, GENERATORS + 48);"),
+        ("loading/src/lib.rt", "let charge = load8(s, layout_rules::GENERATORS + 40);",
+         "let charge = load8(s, layout_rules::GENERATORS + 48);"),
     "bytes: consumers stored one place early":
-        ("layout/src/lib.rt", "store16(supplied, s, CONSUMERS + 64);",
-         "store16(supplied, s, CONSUMERS + 63);"),
+        ("storing/src/lib.rt", "store16(supplied, s, layout_rules::CONSUMERS + 64);",
+         "store16(supplied, s, layout_rules::CONSUMERS + 63);"),
     # reader: sizes and names
     "reader: G = 9 allowed":
         ("table/src/lib.rt", "if 8 < g {", "if 9 < g {"),
@@ -189,33 +197,33 @@ FAULTS = {
         ("table_text/src/lib.rt", "if n < 10 {", "if n <= 10 {"),
     # reader: values and lines
     "reader: highest value refused":
-        ("table/src/lib.rt", "m <= 4_294_967_295 {", "m < 4_294_967_295 {"),
+        ("table_scan/src/lib.rt", "m <= 4_294_967_295 {", "m < 4_294_967_295 {"),
     "reader: values by 2^32":
-        ("table/src/lib.rt", "if m <= 4_294_967_295 {", "if n <= 4_294_967_295 {"),
+        ("table_scan/src/lib.rt", "if m <= 4_294_967_295 {", "if n <= 4_294_967_295 {"),
     "reader: values up to 2^33":
-        ("table/src/lib.rt", "m <= 4_294_967_295 {", "m <= 8_589_934_591 {"),
+        ("table_scan/src/lib.rt", "m <= 4_294_967_295 {", "m <= 8_589_934_591 {"),
     "reader: byte after 9 taken for a digit":
-        ("table/src/lib.rt", "b <= b'9'", "b <= b':'"),
+        ("table_scan/src/lib.rt", "b <= b'9'", "b <= b':'"),
     "reader: byte before 0 taken for a digit":
-        ("table/src/lib.rt", "if b < b'0' {", "if b < b'/' {"),
+        ("table_scan/src/lib.rt", "if b < b'0' {", "if b < b'/' {"),
     "reader: empty value read as 0":
-        ("table/src/lib.rt", "fn first_byte(b: u8) ", "fn first_byte(b: u8, sep: u8) ",
+        ("table_scan/src/lib.rt", "fn first_byte(b: u8) ", "fn first_byte(b: u8, sep: u8) ",
          "firstByte b ⌝ }\n{", "firstByte b ⌝ }\n{\n    if b == sep {\n"
          "        return Progress::Start;\n    }", "=> first_byte(b),", "=> first_byte(b, sep),"),
     "reader: comma and line feed alike":
-        ("table/src/lib.rt", "if b == sep {", "if (b == b',') | (b == b'\\n') {"),
+        ("table_scan/src/lib.rt", "if b == sep {", "if (b == b',') | (b == b'\\n') {"),
     "reader: semicolon for a comma allowed":
-        ("table/src/lib.rt", "if b == sep {", "if (b == sep) | ((b == b';') & (sep == b',')) {"),
+        ("table_scan/src/lib.rt", "if b == sep {", "if (b == sep) | ((b == b';') & (sep == b',')) {"),
     "reader: carriage return passed over":
-        ("table/src/lib.rt", "    if b == sep {",
+        ("table_scan/src/lib.rt", "    if b == sep {",
          "    if b == 13 {\n        return Progress::Digits(n);\n    }\n    if b == sep {",
          "valuesEnded b ⌝ }\n{",
          "valuesEnded b ⌝ }\n{\n    if b == 13 {\n        return 0;\n    }"),
     "reader: no last line feed allowed":
-        ("table/src/lib.rt", "Progress::Digits(_) => false",
+        ("table_scan/src/lib.rt", "Progress::Digits(_) => false",
          "Progress::Digits(_) => k % w == w - 1"),
     "reader: last line with too few values allowed":
-        ("table/src/lib.rt", "k % w == 0", "k % w <= w"),
+        ("table_scan/src/lib.rt", "k % w == 0", "k % w <= w"),
     "reader: lines past 64 KiB not tested":
         ("table/src/lib.rt", "    while i < s.len() {\n        let b = s[i];\n        let sep",
          "    while (i < s.len()) & (i < 65_536) {\n        let b = s[i];\n        let sep"),
@@ -227,7 +235,7 @@ FAULTS = {
     "reader: room one high":
         ("table/src/lib.rt", "out.len() < k", "out.len() + 1 < k"),
     "reader: last place of a full output left":
-        ("table/src/lib.rt", "if !is_digit(b) {", "if !is_digit(b) & (k + 1 < out.len()) {"),
+        ("table/src/lib.rt", "if !table_scan::is_digit(b) {", "if !table_scan::is_digit(b) & (k + 1 < out.len()) {"),
     "reader: rest of the output cleared":
         ("table/src/lib.rt", "    let lines = count_lines(w, k);",
          "    let mut rest = k;\n    while rest < out.len() {\n        out[rest] = 0;\n"
@@ -258,9 +266,9 @@ FAULTS = {
 # Faults that no C call can show, and why.
 EQUIVALENT = {
     "block/record_untouched":
-        "the edit is in the call on a record by value; the C calls store what `enter` gives",
+        "the edit is in the call on a record by value; the C call is `block_on`",
     "closing/record_untouched":
-        "the edit is in the call on a record by value; the C calls store what `close_on` gives",
+        "the edit is in the call on a record by value; the C call is `close_on`",
 }
 
 # The line of compare.py, and that of reader.py, which knows one call only.

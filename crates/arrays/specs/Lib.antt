@@ -7,3 +7,4 @@ pub mod Rows
 pub mod Columns
 pub mod Added
 pub mod AddedLaws
+pub mod Stretches

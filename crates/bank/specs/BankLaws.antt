@@ -4,17 +4,18 @@ use mathlib.Core.Path.{_≡_, refl, sym, ap, _∙_}
 use mathlib.Core.Bool.{Bool, true, false}
 use mathlib.Core.List.{List}
 use native.Mathlib.Omega.{arith}
+use lib.Dec.{eqb}
 use lib.ListN.{length, getD, set, replicate}
 use Rattle.lists.specs.Tables.{table, is-table, Filling, fill-start, fill-step, fill-here, fill-done}
-use Rattle.lists.specs.Pairs.{place}
+use Rattle.lists.specs.Pairs.{place, cell}
 use Rattle.lists.specs.PairsLaws.{place-in}
 use Rattle.energy.specs.Energy.{portionUp}
 use Rattle.energy.specs.EnergyLaws.{portion-le}
-use Rattle.order.specs.Order.{only}
+use Rattle.order.specs.Order.{only, inOrder}
 use Rattle.order.specs.Members.{Below}
 use Rattle.order.specs.Settle.{given, kept, unmet}
-use Rattle.order.specs.Settling.{settled, settledBy, settled-table}
-use Rattle.order.specs.declared.Settled.{Settled}
+use Rattle.order.specs.Arrays.{column-read}
+use Rattle.order.specs.Settling.{Settled, settled, settledBy, settled-table}
 use Rattle.bank.specs.declared.Bank.{Bank}
 use Rattle.bank.specs.declared.Credit.{Credit}
 use Rattle.bank.specs.declared.Draw.{Draw}
@@ -71,11 +72,14 @@ module _ (old pending : List ℕ) (rate : ℕ) where
 
 -- ---- step 2, for one consumer
 
-pub draw-is : (x : Bank) (p : ℕ → Bool) (want : ℕ) {all some gs : List ℕ} {s : Settled} → all ≡ gs → some ≡ only p all →
-    s ≡ settled some (x .balance) want → _≡_ {A = Draw} (record { bank = record { balance = s .rest }; drawn = s .taken; left = s .left }) (drawOf x (only p gs) want)
+pub draw-is : (x : Bank) (n c want : ℕ) (rank link : List ℕ) {ranks links all some : List ℕ} {s : Settled} →
+    ranks ≡ table 8 (λ g. cell 8 16 rank g c) → links ≡ table 8 (λ g. cell 8 16 link g c) →
+    all ≡ inOrder (place 8 ranks) n → some ≡ only (λ g. eqb (place 8 links g) 1) all → s ≡ settled some (x .balance) want →
+    _≡_ {A = Draw} (record { bank = record { balance = s .rest }; drawn = s .taken; left = s .left })
+    (drawOf x (only (λ g. eqb (cell 8 16 link g c) 1) (inOrder (λ g. cell 8 16 rank g c) n)) want)
 unfolding drawOf settled settledBy
-draw-is x p want {all} {some} {gs} {s} e f q =
-    let r = q ∙ ap (λ (l : List ℕ). settled l (x .balance) want) (f ∙ ap (only p) e) in
+draw-is x n c want rank link er el e f q =
+    let r = rw (f, e, column-read rank c er, column-read link c el) at q in
     λ i. record { bank = record { balance = r i .rest }; drawn = r i .taken; left = r i .left }
 
 -- a bank made by a rule is drawn on by that rule

@@ -6,14 +6,14 @@ use native.Mathlib.Numerals.{add-one}
 use native.Mathlib.Omega.{arith}
 use lib.ListN.{length, set, replicate}
 use Rattle.lists.specs.Sums.{sum-part}
-use Rattle.lists.specs.Tables.{table, Filling, fill-start, fill-step}
-use Rattle.lists.specs.Pairs.{place}
+use Rattle.lists.specs.Tables.{table, Filling, fill-start, fill-step, fill-rest}
+use Rattle.lists.specs.Pairs.{place, cell}
+use Rattle.energy.specs.Limits.{mostRank}
 use Rattle.order.specs.Members.{below-more}
 use Rattle.order.specs.Settle.{given}
 use Rattle.order.specs.SettleLaws.{given-sum, unmet-le, kept-is}
 use Rattle.delivery.specs.Plan.{Plan, suppliers}
 use Rattle.delivery.specs.DeliveryLaws.{suppliers-within}
-use Rattle.delivery.specs.Filling.{fill-rest}
 use Rattle.bank.specs.Drawing.{stockAt, drawnAt, missingAt}
 use Rattle.bank.specs.declared.Bank.{Bank}
 use Rattle.bank.specs.declared.Draw.{Draw}
@@ -23,10 +23,11 @@ use Rattle.bank.specs.BankLaws.{balances, drawn-by-rule}
 use Rattle.arrays.specs.AddedLaws.{at-table}
 use Rattle.arrays.specs.Columns.{ColumnPut, Columns, columns-start, columns-step, columns-pairs}
 
--- what a sound record gives: nobody beyond the m consumers wants anything
-pub record Drawable (n m : ℕ) (outstanding : List ℕ) : Type 0 where
+-- what a sound record gives: ranks within their limit, and nobody beyond the m consumers who wants anything
+pub record Drawable (n m : ℕ) (rank outstanding : List ℕ) : Type 0 where
   pub G-high : n ≤ 8
   pub C-high : m ≤ 16
+  pub rank-high : (g c : ℕ) → cell 8 16 rank g c ≤ mostRank
   pub beyond : (c : ℕ) → m ≤ c → place 16 outstanding c ≡ 0
 
 module _ (p : Plan) (has want : ℕ → ℕ) where

@@ -1,9 +1,10 @@
 // The bank: one balance a generator, with its own calls and limits (steps 1, 2 and 4 of a closing).
 ghost use mathlib.Core.Path.{_≡_};
-ghost use Prim.Native.Nat.{_<_, _≤_};
+ghost use Prim.Native.Nat.{ℕ, _<_, _≤_};
 ghost use lib.Dec.{eqb};
 ghost use lib.ListN.{length};
 ghost use Rattle.lists.specs.Pairs.{cell};
+ghost use Rattle.energy.specs.Limits.{mostRank};
 ghost use Rattle.order.specs.Order.{inOrder, only};
 ghost use Rattle.bank.specs.Arrays.{Creditable, creditOf, drawOf, drawingOf, lapseOf, linkPlan};
 ghost use Rattle.bank.specs.DrawingLaws.{Drawable};
@@ -69,22 +70,19 @@ impl Bank {
 
     // Step 2 for consumer c: its linked generators give in their order.
     pub fn draw(self, n: usize, rank: &[u64; 128], link: &[u64; 128], c: usize, want: u64) -> Draw
-        requires { ⌜ (c < 16) × (n ≤ 8) ⌝ }
+        requires { ⌜ (c < 16) × ((n ≤ 8) × ((g : ℕ) → cell 8 16 (now rank) g c ≤ mostRank)) ⌝ }
         ensures { λ r. ⌜ r ≡ drawOf self (only (λ g. eqb (cell 8 16 (now (link .entry)) g c) 1) (inOrder (λ g. cell 8 16 (now (rank .entry)) g c) n)) want ⌝ }
     {
-        let turns = order::in_order(rank, c, n);
-        let linked = order::keep(turns, n, link, c);
+        let ranks = arrays::column(rank, c);
+        let links = arrays::column(link, c);
+        let turns = order::in_order(ranks, n);
+        let linked = order::keep(turns, n, links);
         let at = linked.at;
-        let stock = self.balance;
-        let settled = order::settle(at, linked.count, stock, want);
-        let balance = settled.rest;
-        let drawn = settled.taken;
-        let bank = Bank { balance };
-        Draw {
-            bank,
-            drawn,
-            left: settled.left,
-        }
+        let mut stock = self.balance;
+        let mut drawn = [0u64; 8];
+        let left = order::settle(&at, linked.count, &mut stock, &mut drawn, want);
+        let bank = Bank { balance: stock };
+        Draw { bank, drawn, left }
     }
 
     // Step 4: at the end of a cycle nothing stays.
@@ -113,7 +111,7 @@ pub fn draw_all<'a>(
     link: &'a [u64; 128],
     outstanding: [u64; 16],
 ) -> Drawing
-    requires { ⌜ Drawable n m outstanding ⌝ }
+    requires { ⌜ Drawable n m (now rank) outstanding ⌝ }
     ensures { λ r. ⌜ r ≡ drawingOf (linkPlan n m (now (rank .entry)) (now (link .entry))) bank outstanding ⌝ }
 {
     let mut all = Drawing {

@@ -1,9 +1,1 @@
-pub mod Block
-pub mod BlockLaws
-pub mod Refusals
-pub mod Readings
-pub mod Totals
-pub mod TotalsLaws
-pub mod RoomLaws
-pub mod Output
-pub mod Accepted
+pub mod Ready

@@ -3,9 +3,9 @@ use Prim.Native.Nat.{ℕ, zero, suc, _+_, _-_, _*_, _/_, _%_, _^_, _≤_, _<_}
 use mathlib.Core.Path.{_≡_, refl, sym, ap, ap₂, _∙_}
 use mathlib.Core.List.{List, [], _∷_, _++_, append-assoc}
 use native.Mathlib.Omega.{arith}
-use native.Mathlib.Nat.{zero-add, suc-add, zero-mul, suc-mul, pow-succ', one-le-pow}
-use lib.ListN.{length, take, drop, getD, length-append, length-drop, take-append-drop}
-use lib.Seq.{take-at, drop-at, take-take, drop-drop, getD-drop, length-take-le, take-nil}
+use native.Mathlib.Nat.{zero-add, add-suc, suc-add, zero-mul, suc-mul, pow-succ', one-le-pow}
+use lib.ListN.{length, take, drop, getD, set, length-append, length-drop, take-append-drop}
+use lib.Seq.{sets, sets-eq, take-at, drop-at, take-take, drop-drop, take-set-le, drop-set-add, getD-drop, length-take-le, take-nil}
 use Rattle.codec.specs.Bytes.{number, bytes, encode, decode}
 
 -- every number of the list is below b
@@ -45,6 +45,10 @@ below-take b (suc n) (x ∷ s) p h (suc i) = below-take b n s p (λ j. h (suc j)
 below-drop : (b n : ℕ) (s : List ℕ) → Below b s → Below b (drop n s)
 below-drop b n s h i = rw getD-drop (h (n + i))
 
+pub below-one : (b x : ℕ) → x < b → Below b (x ∷ [])
+below-one b x h zero = h
+below-one b x h (suc i) = omega arith
+
 pub below-append : (b : ℕ) (xs ys : List ℕ) → Below b xs → Below b ys → Below b (xs ++ ys)
 below-append b [] ys h l i = l i
 below-append b (x ∷ xs) ys h l zero = h 0
@@ -75,6 +79,15 @@ pub decode-part : (k all m n : ℕ) (s : List ℕ) → m + n ≤ all → take n 
 decode-part k all m n s h =
     let e : m + (n + (all - m - n)) ≡ all = omega arith in
     rw (← e) (rw drop-decode (take-decode k n (all - m - n) (drop (m * k) s)))
+
+-- one number, by its bytes
+pub decode-at : (k n i : ℕ) (s : List ℕ) → i < n → getD (decode k n s) i 0 ≡ number (take k (drop (i * k) s))
+unfolding decode
+decode-at k zero i s h = absurd (omega arith)
+decode-at k (suc n) zero s h = rw zero-mul
+decode-at k (suc n) (suc i) s h =
+    let e : k + i * k ≡ suc i * k = omega (arith, suc-mul i k) in
+    decode-at k n i (drop k s) (omega arith) ∙ ap (λ (l : List ℕ). number (take k l)) (drop-drop (i * k) k s ∙ ap (λ (j : ℕ). drop j s) e)
 
 -- ---- back and forth
 
@@ -123,3 +136,24 @@ decode-below k (suc n) s e h zero =
     let size : length (take k s) ≡ k = length-take-le k s (omega (arith, suc-mul n k)) in
     rw size at (number-below (take k s) (below-take 256 k s (omega arith) h))
 decode-below k (suc n) s e h (suc i) = decode-below k n (drop k s) (omega (arith, length-drop k s, suc-mul n k)) (below-drop 256 k s h) i
+
+-- ---- the bytes of one number replaced
+
+take-sets : (n : ℕ) (l : List ℕ) (i : ℕ) (vs : List ℕ) → n ≤ i → take n (sets l i vs) ≡ take n l
+take-sets n l i [] h = refl
+take-sets n l i (a ∷ vs) h = take-sets n (set l i a) (suc i) vs (omega arith) ∙ take-set-le n l i a h
+
+drop-sets : (n : ℕ) (l : List ℕ) (i : ℕ) (vs : List ℕ) → drop n (sets l (n + i) vs) ≡ sets (drop n l) i vs
+drop-sets n l i [] = refl
+drop-sets n l i (a ∷ vs) = rw (← (add-suc n i), drop-sets n (set l (n + i) a) (suc i) vs, drop-set-add)
+
+pub decode-sets : (k n i w : ℕ) (s : List ℕ) → i < n → length s ≡ n * k → w < 256 ^ k → decode k n (sets s (i * k) (bytes k w)) ≡ set (decode k n s) i w
+unfolding decode
+decode-sets k zero i w s h e l = absurd (omega arith)
+decode-sets k (suc n) zero w s h e l =
+    let size = length-bytes k w in
+    let first : sets s 0 (bytes k w) ≡ bytes k w ++ drop (length (bytes k w)) s = rw zero-add at (sets-eq (bytes k w) s 0 (omega (arith, size, suc-mul n k))) in
+    rw (zero-mul, first, size, take-at (bytes k w) (drop k s) k size, drop-at (bytes k w) (drop k s) k size, number-bytes k w l)
+decode-sets k (suc n) (suc i) w s h e l =
+    let at : suc i * k ≡ k + i * k = omega (arith, suc-mul i k) in
+    rw (at, take-sets k s (k + i * k) (bytes k w) (omega arith), drop-sets) (ap (λ (l : List ℕ). number (take k s) ∷ l) (decode-sets k n i w (drop k s) (omega arith) (omega (arith, length-drop k s, suc-mul n k)) l))

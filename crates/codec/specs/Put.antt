@@ -1,15 +1,15 @@
 -- Numbers read from and written into a slice of bytes, and the laws by which the loops that do so are proved. Assumes nothing.
-use Prim.Native.Nat.{ℕ, zero, suc, _+_, _*_, _≤_, _<_}
+use Prim.Native.Nat.{ℕ, zero, suc, _+_, _*_, _^_, _≤_, _<_}
 use mathlib.Core.Path.{_≡_, refl, sym, ap, _∙_}
 use mathlib.Core.List.{List, [], _∷_, _++_, append-assoc, append-nil}
 use native.Mathlib.Omega.{arith}
 use native.Mathlib.Numerals.{add-one}
-use native.Mathlib.Nat.{add-zero, zero-mul, suc-mul, add-mul, one-mul}
+use native.Mathlib.Nat.{add-zero, zero-mul, suc-mul, add-mul, one-mul, one-le-pow}
 use lib.ListN.{length, take, drop, getD, set, length-append, length-drop, length-set}
 use lib.Seq.{sets, sets-eq, take-at, take-all, take-suc, take-suc-set, length-take-le, getD-take, getD-drop, drop-cons, drop-drop}
 use Rattle.lists.specs.Tables.{table, is-table}
 use Rattle.codec.specs.Bytes.{number, bytes, encode, decode}
-use Rattle.codec.specs.BytesLaws.{length-bytes, encode-append}
+use Rattle.codec.specs.BytesLaws.{Below, below-one, below-append, length-bytes, encode-append}
 
 -- ---- reading
 
@@ -53,23 +53,25 @@ read-done {k} {n} {i} {s} {out} r h =
 -- ---- writing
 
 -- The bytes s became t: the numbers ws stand in it from place `from` up to place `to`, places counted in numbers,
--- and what stood before them is there still.
+-- each in its k bytes, and what stood before them is there still.
 pub record Put (k from to : ℕ) (ws s t : List ℕ) : Type 0 where
   pub size : from + length ws ≡ to
+  pub low : Below (256 ^ k) ws
   pub is : take (to * k) t ≡ take (from * k) s ++ encode k ws
 
 pub put-none : {k at : ℕ} {s : List ℕ} → Put k at at [] s s
 unfolding encode
-put-none {k} {at} {s} = record { size = add-zero at; is = rw append-nil }
+put-none {k} {at} {s} = record { size = add-zero at; low = λ i. one-le-pow k 256 (omega arith); is = rw append-nil }
 
-pub put-one : (k at w : ℕ) (s : List ℕ) → (at + 1) * k ≤ length s → Put k at (at + 1) (w ∷ []) s (sets s (at * k) (bytes k w))
+pub put-one : (k at w : ℕ) (s : List ℕ) → (at + 1) * k ≤ length s → w < 256 ^ k → Put k at (at + 1) (w ∷ []) s (sets s (at * k) (bytes k w))
 unfolding encode
-put-one k at w s h =
+put-one k at w s h l =
     let room : (at + 1) * k ≡ at * k + k = add-mul at 1 k ∙ ap (λ (n : ℕ). at * k + n) (one-mul k) in
     let front : length (take (at * k) s) ≡ at * k = length-take-le (at * k) s (omega arith) in
     let whole : length (take (at * k) s ++ bytes k w) ≡ (at + 1) * k = omega (arith, length-append (take (at * k) s) (bytes k w), length-bytes k w) in
     record {
       size = refl;
+      low = below-one (256 ^ k) w l;
       is =
           ap (take ((at + 1) * k)) (sets-eq (bytes k w) s (at * k) (omega (arith, length-bytes k w))) ∙
           take-at (take (at * k) s ++ bytes k w) (drop (at * k + length (bytes k w)) s) ((at + 1) * k) whole ∙
@@ -79,7 +81,11 @@ put-one k at w s h =
 -- what is put after what is put before it
 pub put-then : {k from mid to : ℕ} {xs ys s t u : List ℕ} → Put k from mid xs s t → Put k mid to ys t u → Put k from to (xs ++ ys) s u
 put-then {k} {from} {mid} {to} {xs} {ys} {s} {t} {u} p q =
-    record { size = omega (arith, length-append xs ys, p .size, q .size); is = rw (q .is, p .is, append-assoc, encode-append) }
+    record {
+      size = omega (arith, length-append xs ys, p .size, q .size);
+      low = below-append (256 ^ k) xs ys (p .low) (q .low);
+      is = rw (q .is, p .is, append-assoc, encode-append);
+    }
 
 -- the numbers of a list are put one by one
 pub put-more : {k at : ℕ} {s t u : List ℕ} (ws : List ℕ) (i : ℕ) → i < length ws →

@@ -3,7 +3,8 @@ ghost use mathlib.Core.Path.{_≡_};
 ghost use mathlib.Core.List.{[], _∷_};
 ghost use Prim.Native.Nat.{_+_, _*_, _≤_};
 ghost use lib.ListN.{length, take, drop};
-ghost use Rattle.codec.specs.Bytes.{number, encode, decode};
+ghost use lib.Seq.{sets};
+ghost use Rattle.codec.specs.Bytes.{number, bytes, encode, decode};
 ghost use Rattle.codec.specs.Put.{Put};
 
 // A sum of weighted bytes is what LLVM reads as one load.
@@ -34,7 +35,7 @@ fn number4(s: &[u8], at: usize) -> u32
     join4(s[at], s[at + 1], s[at + 2], s[at + 3])
 }
 
-fn number8(s: &[u8], at: usize) -> u64
+pub fn number8(s: &[u8], at: usize) -> u64
     requires { ⌜ at + 8 ≤ length (now s) ⌝ }
     ensures { λ r. ⌜ r ≡ number (take 8 (drop at (now (s .entry)))) ⌝ }
 {
@@ -74,9 +75,9 @@ pub fn read8(s: &[u8], out: &mut [u64])
 }
 
 // Writes one number; `at` counts numbers, not bytes.
-fn put8(w: u64, s: &mut [u8], at: usize)
+pub fn put8(w: u64, s: &mut [u8], at: usize)
     requires { ⌜ (at + 1) * 8 ≤ length (now s) ⌝ }
-    ensures { λ _. ⌜ Put 8 at (at + 1) (w ∷ []) (now (s .entry)) (now (s .exit)) ⌝ }
+    ensures { λ _. ⌜ now (s .exit) ≡ sets (now (s .entry)) (at * 8) (bytes 8 w) ⌝ }
 {
     let w1 = w / 256;
     let w2 = w1 / 256;

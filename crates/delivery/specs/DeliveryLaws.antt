@@ -1,10 +1,10 @@
 -- Laws of rules 1 to 4: every subtraction is exact, and the parts of a generator add up to what counts. Assumes nothing.
 use Prim.Native.Nat.{ℕ, _+_, _-_, _*_, _≤_, _<_, min}
-use mathlib.Core.Path.{_≡_, refl, sym, _∙_}
+use mathlib.Core.Path.{_≡_, refl, sym, ap, _∙_}
 use mathlib.Core.Bool.{Bool, true, false}
 use mathlib.Core.Logic.{⊎-elim}
 use native.Mathlib.Omega.{arith}
-use native.Mathlib.Nat.{le-refl, eq-zero-or-pos}
+use native.Mathlib.Nat.{le-refl, mul-le-mul-left, mul-one, eq-zero-or-pos}
 use borrow.Author.Tests.{eq-eqb}
 use lib.Dec.{eqb}
 use Rattle.lists.specs.Choice.{if_then_else_}
@@ -28,6 +28,20 @@ unfolding suppliers
 suppliers-within p c = only-below (λ g. eqb (p .link g c) 1) (p .G) (order p c) (order-within p c)
 
 -- ---- rules 1 to 4
+
+-- no kW, no part
+pub part-of-no-kw : (p : Plan) (g e c : ℕ) → p .kw g c ≡ 0 → partOf p g e c ≡ 0
+unfolding partOf
+part-of-no-kw p g e c z =
+    ⊎-elim
+    (λ (s : sum (p .C) (p .kw g) ≡ 0). part-none (p .C) (p .kw g) K c s)
+    (λ (s : 0 < sum (p .C) (p .kw g)).
+    let h : K ≤ K * sum (p .C) (p .kw g) = omega (arith, mul-le-mul-left K s, mul-one K) in
+    omega (arith, part-le (p .C) (p .kw g) K K c h, ap (λ (x : ℕ). K * x) z))
+    (eq-zero-or-pos (sum (p .C) (p .kw g)))
+  where
+    K : ℕ
+    K = counted p g e
 
 module _ (p : Plan) (g e : ℕ) where
   -- E - K is exact

@@ -1,8 +1,5 @@
 pub mod Plan
 pub mod Delivery
 pub mod DeliveryLaws
-pub mod Arrays
-pub mod Steps
-pub mod StepLaws
-pub mod Filling
-pub mod DeliverLaws
+pub mod Deliverable
+pub mod DeliveredIn

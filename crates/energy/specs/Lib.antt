@@ -2,5 +2,5 @@ pub mod Limits
 pub mod Energy
 pub mod EnergyLaws
 pub mod Share
-pub mod ShareLaws
 pub mod Requirements
+pub mod ShareLaws

@@ -6,16 +6,19 @@ use mathlib.Core.List.{List}
 use mathlib.Core.Logic.{⊎-elim}
 use native.Mathlib.Omega.{arith}
 use native.Mathlib.Numerals.{add-one}
-use native.Mathlib.Nat.{mul-le-mul-left, mul-le-mul-right, mul-div-cancel, zero-div, mul-zero, zero-mul, mul-add, mul-assoc, mul-comm, add-mul-div-left, div-le-of-le-mul, le-trans, le-of-eq, eq-zero-or-pos}
+use native.Mathlib.Nat.{mul-le-mul, mul-le-mul-left, mul-le-mul-right, mul-div-cancel, zero-div, mul-zero, zero-mul, mul-add, mul-assoc, mul-comm, add-mul-div-left, div-le-of-le-mul, le-trans, le-of-eq, eq-zero-or-pos}
 use borrow.Author.Tests.{eq-eqb, ne-eqb, le-leb, lt-leb}
 use lib.Dec.{eqb, leb}
-use lib.ListN.{length, getD}
+use lib.ListN.{length, getD, set, replicate, getD-replicate}
+use lib.Seq.{set-getD}
 use Rattle.lists.specs.Choice.{if_then_else_, if-either}
-use Rattle.lists.specs.Sums.{sum, sum-cong, sum-zero, sum-rises, sum-to, sum-add, sum-part, div-up}
-use Rattle.lists.specs.Tables.{table, length-table, getD-table, table-same, table-bound}
+use Rattle.lists.specs.Sums.{sum, sum-none, sum-more, sum-cong, sum-zero, sum-rises, sum-to, sum-add, sum-part, div-up}
+use Rattle.lists.specs.Tables.{table, length-table, getD-table, table-same, table-bound, Filling, fill-start, fill-step, fill-here}
 use Rattle.lists.specs.Pairs.{place}
+use Rattle.lists.specs.PairsLaws.{place-in}
 use Rattle.energy.specs.Limits.{mostReading, mostCapacity, mostConsumers}
 use Rattle.energy.specs.Share.{part, shared}
+use Rattle.energy.specs.Requirements.{Shareable}
 
 module _ (C : ℕ) (a : ℕ → ℕ) (K : ℕ) where
   -- what the first c consumers get together
@@ -83,21 +86,68 @@ part-wide C D a K c e = rw e
 -- ---- the row-sharing step
 
 -- the part as the difference of two quotients, s the sum of the figures before c and n the sum with c
-pub part-is : (C : ℕ) (a : ℕ → ℕ) (K c A s n : ℕ) → A ≡ sum C a → 0 < A → s ≡ sum c a → n ≡ sum (c + 1) a → K * n / A - K * s / A ≡ part C a K c
+part-is : (C : ℕ) (a : ℕ → ℕ) (K c A s n : ℕ) → A ≡ sum C a → 0 < A → s ≡ sum c a → n ≡ sum (c + 1) a → K * n / A - K * s / A ≡ part C a K c
 unfolding part
 part-is C a K c A s n e p es en =
     let h : n ≡ sum (suc c) a = en ∙ ap (λ (m : ℕ). sum m a) (add-one c) in
     rw (← (e), ne-eqb A 0 (λ z. omega arith), ← (es), ← (h))
 
 -- what some of the figures bear is at most the whole
-pub quotient-le : (K A s : ℕ) → s ≤ A → K * s / A ≤ K
+quotient-le : (K A s : ℕ) → s ≤ A → K * s / A ≤ K
 quotient-le K A s h = div-le-of-le-mul A (rw (mul-comm A K) (mul-le-mul-left K h))
-
-abbrev zeros : List ℕ
-zeros = table mostConsumers (λ c. 0)
 
 abbrev figures : List ℕ → ℕ → ℕ
 figures kw = place mostConsumers kw
+
+-- ---- the loop that shares K over sixteen kW figures whose sum is A
+
+-- The invariant: c places are passed, s is the sum of their kW, and b what those bear together.
+pub record Sharing (K A : ℕ) (kw : List ℕ) (c : ℕ) (out : List ℕ) (s b : ℕ) : Type 0 where
+  pub made : Filling mostConsumers (part mostConsumers (figures kw) K) (replicate mostConsumers 0) c out
+  pub is : s ≡ sum c (figures kw)
+  pub borne : b ≡ K * s / A
+
+pub sharing-start : {K A : ℕ} {kw : List ℕ} → Sharing K A kw 0 (replicate mostConsumers 0) 0 0
+sharing-start {K} {A} {kw} = record { made = fill-start refl; is = sym (sum-none (figures kw)); borne = sym (rw mul-zero (zero-div A)) }
+
+module _ {K A : ℕ} {kw : List ℕ} (h : Shareable K A kw) {c : ℕ} {out : List ℕ} {s b : ℕ} (i : Sharing K A kw c out s b) (l : c < mostConsumers) where
+  -- the sum with place c
+  abbrev next : ℕ
+  next = s + getD kw c 0
+
+  next-is : next ≡ sum (c + 1) (figures kw)
+  next-is = omega (arith, i .is, sum-more c (figures kw), place-in mostConsumers kw c l)
+
+  pub next-le : next ≤ A
+  next-le = omega (arith, next-is, h .whole, sum-to (c + 1) mostConsumers (figures kw) (omega arith))
+
+  -- the product fits 64 bits, and the quotient 32
+  pub product-le : K * next ≤ mostReading * mostCapacity
+  product-le = let n : next ≤ mostCapacity = omega (arith, next-le, h .capacity) in mul-le-mul (h .energy) n
+
+  pub share-le : K * next / A ≤ mostReading
+  share-le = omega (arith, quotient-le K A next next-le, h .energy)
+
+  pub share-rises : b ≤ K * next / A
+  share-rises = rw (i .borne) (div-up A (K * s) (K * next) (mul-le-mul-left K (omega arith)))
+
+  part-here : K * next / A - b ≡ part mostConsumers (figures kw) K c
+  part-here = rw (i .borne) (part-is mostConsumers (figures kw) K c A s next (h .whole) (h .some) (i .is) next-is)
+
+  pub sharing-step : Sharing K A kw (c + 1) (set out c (K * next / A - b)) next (K * next / A)
+  sharing-step = record { made = fill-step (i .made) l part-here; is = next-is; borne = refl }
+
+  -- a place with no kW keeps the 0 that it has
+  pub sharing-skip : getD kw c 0 ≤ 0 → Sharing K A kw (c + 1) out s b
+  sharing-skip z =
+      let same : next ≡ s = omega arith in
+      let none : getD out c 0 ≡ part mostConsumers (figures kw) K c = omega (arith, fill-here (i .made), getD-replicate {A = ℕ} mostConsumers c 0 0 l, part-here, i .borne, ap (λ (n : ℕ). K * n / A) same) in
+      record { made = rw (set-getD out c 0) at (fill-step (i .made) l none); is = sym same ∙ next-is; borne = i .borne }
+
+-- ---- the step as a whole
+
+abbrev zeros : List ℕ
+zeros = table mostConsumers (λ c. 0)
 
 pub shared-over-energy : (K : ℕ) (kw : List ℕ) → mostReading < K → zeros ≡ shared K kw
 unfolding shared

@@ -56,18 +56,23 @@ fn total(kw: [u32; 16]) -> u64
     sum
 }
 
-// A part is the difference of two running totals, each rounded down: so the parts add up to k.
+// A part is the difference of two running shares, each rounded down: so the parts add up to k. A place with no kW,
+// whose part is 0, costs no division.
 fn parts(k: u64, all: u64, kw: [u32; 16]) -> [u32; 16]
     requires { ⌜ Shareable k all kw ⌝ }
     ensures { λ r. ⌜ r ≡ table mostConsumers (part mostConsumers (place mostConsumers kw) k) ⌝ }
 {
     let mut out = [0u32; 16];
     let mut sum: u64 = 0;
+    let mut last: u64 = 0;
     let mut c: usize = 0;
     while c < 16 {
-        let next = sum + kw[c] as u64;
-        out[c] = (k * next / all - k * sum / all) as u32;
-        sum = next;
+        if kw[c] > 0 {
+            sum += kw[c] as u64;
+            let share = k * sum / all;
+            out[c] = (share - last) as u32;
+            last = share;
+        }
         c += 1;
     }
     out

@@ -1,22 +1,32 @@
 -- Settling of stock kept in an array, and the laws by which its loops are proved. Assumes nothing.
-use Prim.Native.Nat.{ℕ, zero, suc, _-_, _≤_, _<_, min}
-use mathlib.Core.Path.{_≡_, refl, sym, ap, _∙_, fun-ext}
+use Prim.Native.Nat.{ℕ, zero, suc, _+_, _-_, _≤_, _<_, min}
+use mathlib.Core.Path.{_≡_, refl, sym, ap, _∙_, subst, fun-ext}
 use mathlib.Core.Bool.{Bool, true, false}
 use mathlib.Core.List.{List}
+use mathlib.Core.Logic.{inl, inr}
 use native.Mathlib.Omega.{arith}
 use borrow.Author.Tests.{eqb-true, eqb-false, ltb-false}
 use lib.Dec.{ltb, eqb}
-use lib.ListN.{length, getD, set, length-set}
+use lib.ListN.{length, getD, set, length-set, replicate, length-replicate}
 use lib.Seq.{getD-set-same, getD-set-other}
 use Rattle.lists.specs.Choice.{if_then_else_}
 use Rattle.lists.specs.Tables.{table, getD-table, is-table, table-same}
 use Rattle.lists.specs.Pairs.{place}
 use Rattle.lists.specs.PairsLaws.{place-in}
-use Rattle.order.specs.declared.Settled.{Settled}
-use Rattle.order.specs.Members.{Below}
+use Rattle.order.specs.Members.{In, Below}
 use Rattle.order.specs.Settle.{Rest, lower, settle, given, kept, unmet}
-use Rattle.order.specs.SettleLaws.{settle-has, settle-same}
+use Rattle.order.specs.SettleLaws.{settle-same}
 use Rattle.order.specs.Arrays.{upto, Held, upto-low}
+
+-- by generator what it gave and what it has left, and what nobody gives
+pub record Settled : Type 0 where
+  pub taken : List ℕ
+  pub rest : List ℕ
+  pub left : ℕ
+
+-- read from the arrays that the code leaves it in
+abbrev pub settledIn : List ℕ → List ℕ → ℕ → Settled
+settledIn taken has left = record { taken = taken; rest = has; left = left }
 
 -- the settlement of what the rule `has` says the generators have
 unfoldable pub settledBy : List ℕ → (ℕ → ℕ) → ℕ → Settled
@@ -38,6 +48,12 @@ settled-table gs f want b =
 
 -- ---- the loop that settles
 
+-- what settling in place starts from: an order, stock, and nothing taken
+pub record Stocked (a : List ℕ) (n : ℕ) (has taken : List ℕ) : Type 0 where
+  pub held : Held a n
+  pub size : length has ≡ 8
+  pub nothing : taken ≡ replicate 8 0
+
 -- stock after one giver's turn, as the code writes it
 place-set : (xs : List ℕ) (g x : ℕ) → g < 8 → length xs ≡ 8 → place 8 (set xs g (getD xs g 0 - x)) ≡ lower (place 8 xs) g x
 unfolding place lower
@@ -55,61 +71,73 @@ place-set xs g x h s = fun-ext (λ i. go i (ltb i 8) refl (eqb i g) refl)
     go i false d true e = absurd (omega (arith, ltb-false i 8 d, eqb-true i g e))
     go i false d false e = refl
 
+zeros-at : (n i : ℕ) → getD {A = ℕ} (replicate n 0) i 0 ≡ 0
+zeros-at zero i = refl
+zeros-at (suc n) zero = refl
+zeros-at (suc n) (suc i) = zeros-at n i
+
 -- The invariant of the loop that settles in the order a: the first i places of a have not had their turn.
-pub record Settling (gs : List ℕ) (stock : List ℕ) (want : ℕ) (a : List ℕ) (has : List ℕ) (left i : ℕ) : Type 0 where
+pub record Settling (gs : List ℕ) (stock : List ℕ) (want : ℕ) (a has taken : List ℕ) (left i : ℕ) : Type 0 where
   pub is : settle gs (place 8 stock) want ≡ settle (upto a i) (place 8 has) left
   pub held : Held a i
   pub size : length has ≡ 8
+  pub room : length taken ≡ 8
+  pub both : (k : ℕ) → getD taken k 0 + getD has k 0 ≡ getD stock k 0
+  pub waiting : (k : ℕ) → In k (upto a i) → getD taken k 0 ≡ 0
 
-pub settle-start : {a stock : List ℕ} {want n : ℕ} → Held a n → length stock ≡ 8 → Settling (upto a n) stock want a stock want n
-settle-start {a} {stock} {want} {n} h s = record { is = refl; held = h; size = s }
+pub settle-start : {a stock taken : List ℕ} {want n : ℕ} → Stocked a n stock taken → Settling (upto a n) stock want a stock taken want n
+settle-start {a} {stock} {taken} {want} {n} h =
+    let z : (k : ℕ) → getD taken k 0 ≡ 0 = λ k. rw (h .nothing) (zeros-at 8 k) in
+    record {
+      is = refl;
+      held = h .held;
+      size = h .size;
+      room = ap length (h .nothing) ∙ length-replicate {A = ℕ} 8 0;
+      both = λ k. omega (arith, z k);
+      waiting = λ k m. z k;
+    }
 
 -- whose turn it is
-pub settle-low : {gs stock : List ℕ} {want : ℕ} {a has : List ℕ} {left i : ℕ} → Settling gs stock want a has left i → 0 < i → getD a (i - 1) 0 < 8
-settle-low {gs} {stock} {want} {a} {has} {left} {i} h l = upto-low a i (i - 1) (h .held .low) (omega arith)
+pub settle-low : {gs stock : List ℕ} {want : ℕ} {a has taken : List ℕ} {left i : ℕ} → Settling gs stock want a has taken left i → 0 < i → getD a (i - 1) 0 < 8
+settle-low {gs} {stock} {want} {a} {has} {taken} {left} {i} h l = upto-low a i (i - 1) (h .held .low) (omega arith)
 
-pub settle-step : (gs stock : List ℕ) (want : ℕ) (a has : List ℕ) (left i x : ℕ) → Settling gs stock want a has left i → 0 < i → x ≡ min (getD has (getD a (i - 1) 0) 0) left →
-    Settling gs stock want a (set has (getD a (i - 1) 0) (getD has (getD a (i - 1) 0) 0 - x)) (left - x) (i - 1)
+pub settle-step : {gs stock : List ℕ} {want : ℕ} {a has taken : List ℕ} {left i x : ℕ} → Settling gs stock want a has taken left i → 0 < i → x ≡ min (getD has (getD a (i - 1) 0) 0) left →
+    Settling gs stock want a (set has (getD a (i - 1) 0) (getD has (getD a (i - 1) 0) 0 - x)) (set taken (getD a (i - 1) 0) x) (left - x) (i - 1)
 unfolding upto settle
-settle-step gs stock want a has left zero x h l q = absurd (omega arith)
-settle-step gs stock want a has left (suc i) x h l q =
+settle-step {i = zero} h l q = absurd (omega arith)
+settle-step {gs} {stock} {want} {a} {has} {taken} {left} {i = suc i} {x} h l q =
     let e : suc i - 1 ≡ i = omega arith in
     let low : g < 8 = h .held .low .0 in
     let q′ : x ≡ min (place 8 has g) left = (rw e at q) ∙ ap (λ (y : ℕ). min y left) (sym (place-in 8 has g low)) in
     rw e
     (record {
       is = rw (place-set has g x low (h .size), q′) (h .is);
-      held = record { few = omega (arith, h .held .few); low = h .held .low .1 };
+      held = record { few = omega (arith, h .held .few); low = h .held .low .1; apart = h .held .apart .1 };
       size = length-set has g (getD has g 0 - x) ∙ h .size;
+      room = length-set taken g x ∙ h .room;
+      both = λ k. go k low (rw e at q) (eqb k g) refl;
+      waiting = λ k m. getD-set-other taken g k x 0 (λ r. h .held .apart .0 (subst (λ (y : ℕ). In y (upto a i)) r m)) ∙ h .waiting k (inr m);
     })
   where
     g : ℕ
     g = getD a i 0
 
-settle-done : (gs stock : List ℕ) (want : ℕ) (a has : List ℕ) (left i : ℕ) → Settling gs stock want a has left i → i ≤ 0 → settle gs (place 8 stock) want ≡ record { has = place 8 has; want = left }
-unfolding upto settle
-settle-done gs stock want a has left zero h l = h .is
-settle-done gs stock want a has left (suc i) h l = absurd (omega arith)
+    go : (k : ℕ) → g < 8 → x ≡ min (getD has g 0) left → (t : Bool) → eqb k g ≡ t → getD (set taken g x) k 0 + getD (set has g (getD has g 0 - x)) k 0 ≡ getD stock k 0
+    go k b m true e =
+        rw (eqb-true k g e)
+        (omega
+        (arith, getD-set-same taken g x 0 (omega (arith, h .room)), getD-set-same has g (getD has g 0 - x) 0 (omega (arith, h .size)), h .both g, h .waiting g (inl refl)))
+    go k b m false e =
+        let n = eqb-false k g e in
+        omega (arith, getD-set-other taken g k x 0 n, getD-set-other has g k (getD has g 0 - x) 0 n, h .both k)
 
--- ---- what each generator gave
-
-unfoldable pub less : List ℕ → List ℕ → ℕ → ℕ
-less a b i = getD a i 0 - getD b i 0
-
--- what the loop leaves, and what the code hands back
-module _ (gs stock : List ℕ) (want : ℕ) (a has : List ℕ) (left i : ℕ) (h : Settling gs stock want a has left i) (l : i ≤ 0) where
-  rest-is : (k : ℕ) → k < 8 → getD has k 0 ≡ kept gs (place 8 stock) want k
-  unfolding kept
-  rest-is k b = sym (place-in 8 has k b) ∙ sym (ap (λ (r : Rest). r .has k) (settle-done gs stock want a has left i h l))
-
-  pub rest-le : (k : ℕ) → k < 8 → getD has k 0 ≤ getD stock k 0
-  unfolding kept
-  rest-le k b = omega (arith, rest-is k b, settle-has gs (place 8 stock) want k, place-in 8 stock k b)
-
-  pub settled-is : (taken : List ℕ) → taken ≡ table 8 (less stock has) → _≡_ {A = Settled} (record { taken = taken; rest = has; left = left }) (settled gs stock want)
-  unfolding settled settledBy given kept unmet less
-  settled-is taken t =
-      let u : taken ≡ table 8 (given gs (place 8 stock) want) = t ∙ table-same 8 _ _ (λ k b. omega (arith, rest-is k b, place-in 8 stock k b)) in
-      let v : left ≡ unmet gs (place 8 stock) want = sym (ap (λ (r : Rest). r .want) (settle-done gs stock want a has left i h l)) in
-      let w : has ≡ table 8 (kept gs (place 8 stock) want) = is-table 0 8 _ has (h .size) rest-is in
-      λ j. record { taken = u j; rest = w j; left = v j }
+-- what the code leaves
+pub settle-done : {gs stock : List ℕ} {want : ℕ} {a has taken : List ℕ} {left i : ℕ} → Settling gs stock want a has taken left i → i ≤ 0 → settledIn taken has left ≡ settled gs stock want
+unfolding upto settle settled settledBy given kept unmet
+settle-done {i = suc i} h l = absurd (omega arith)
+settle-done {gs} {stock} {want} {a} {has} {taken} {left} {i = zero} h l =
+    let rest : (k : ℕ) → k < 8 → getD has k 0 ≡ settle gs (place 8 stock) want .has k = λ k b. sym (place-in 8 has k b) ∙ sym (ap (λ (r : Rest). r .has k) (h .is)) in
+    let t = is-table 0 8 (given gs (place 8 stock) want) taken (h .room) (λ k b. omega (arith, h .both k, rest k b, place-in 8 stock k b)) in
+    let r = is-table 0 8 (kept gs (place 8 stock) want) has (h .size) rest in
+    let u : left ≡ unmet gs (place 8 stock) want = sym (ap (λ (r : Rest). r .want) (h .is)) in
+    λ j. record { taken = t j; rest = r j; left = u j }

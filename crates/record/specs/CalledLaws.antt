@@ -1,5 +1,5 @@
 -- What follows from `Called` for every call. Assumes nothing.
-use Prim.Native.Nat.{ℕ}
+use Prim.Native.Nat.{ℕ, _≤_}
 use mathlib.Core.Path.{_≡_, refl, sym, ap, _∙_, subst}
 use mathlib.Core.Bool.{Bool, true, false}
 use mathlib.Core.List.{List}
@@ -8,12 +8,13 @@ use borrow.Author.Tests.{eqb-true, eqb-false, eq-eqb, ne-eqb}
 use lib.Dec.{eqb}
 use Rattle.lists.specs.Choice.{if_then_else_}
 use Rattle.record.specs.Book.{Book}
-use Rattle.record.specs.Stored.{figures, stored}
+use Rattle.record.specs.Stored.{planOf, figures, stored}
 use Rattle.record.specs.Sound.{sound}
 use Rattle.record.specs.SoundLaws.{Facts, facts-sound, facts-cut, sound-facts}
 use Rattle.record.specs.StoredLaws.{figures-cut, figures-stored}
 use Rattle.record.specs.Called.{Rule, numberOn, recordAfter, outputAfter, Called}
 use Rattle.record.specs.declared.Record.{Record}
+use Rattle.record.specs.declared.Terms.{Terms}
 
 -- an accepted call by the rule keeps what soundness says
 abbrev pub Keeps : Rule → Type 0
@@ -22,6 +23,10 @@ Keeps rule = (b : Book) → Facts b → rule .refusal b ≡ 0 → Facts (rule .a
 -- a sound record's facts, and back
 pub record-facts : (r : Record) → sound (figures r) ≡ true → Facts (figures r)
 record-facts r e = sound-facts (figures r) (figures-cut r) e
+
+pub terms-few : (r : Record) {t : Terms} → t ≡ r .terms → sound (figures r) ≡ true → (t .generators ≤ 8) × (t .consumers ≤ 16)
+unfolding figures planOf
+terms-few r e s = let f = record-facts r s .counts in rw e (f .G-high, f .C-high)
 
 pub stored-sound : (b : Book) → Facts b → sound (figures (stored b)) ≡ true
 stored-sound b f = rw (figures-stored b (facts-cut b f)) (facts-sound b f)
@@ -87,6 +92,10 @@ module _ (rule : Rule) (b : Book) (f : Facts b) where
   pub stored-output : (lent : List ℕ) → outputAfter rule (stored b) lent ≡ (if eqb (rule .refusal b) 0 then rule .output b else lent)
   unfolding outputAfter
   stored-output lent = rw (stored-number, figures-stored b (facts-cut b f))
+
+-- the number on one record is that on the same record, had in another way
+pub number-same : (rule : Rule) {r r′ : Record} {n : ℕ} → r′ ≡ r → n ≡ numberOn rule r′ → n ≡ numberOn rule r
+number-same rule p e = e ∙ ap (numberOn rule) p
 
 -- a call always gives something
 pub called : (rule : Rule) (r : Record) (lent : List ℕ) → Called rule r lent (numberOn rule r) (recordAfter rule r) (outputAfter rule r lent)

@@ -7,7 +7,7 @@ use lib.ListN.{length, getD}
 use Rattle.lists.specs.Tables.{table, is-table}
 use Rattle.lists.specs.Pairs.{place, cell, pairs}
 use Rattle.lists.specs.PairsLaws.{place-in, cell-in, pairs-table}
-use Rattle.record.specs.Stored.{generatorAt, consumerAt, storedGenerators, storedConsumers}
+use Rattle.record.specs.Stored.{generatorAt, consumerAt, planOf, figures, storedGenerators, storedConsumers, stored}
 use Rattle.record.specs.declared.Agreed.{Agreed}
 use Rattle.record.specs.declared.Links.{Links}
 use Rattle.record.specs.declared.Schedule.{Schedule}
@@ -99,4 +99,22 @@ consumers-kept x s =
       drawn = table-place 16 (x .drawn) (s .drawn) i;
       supplied = table-place 16 (x .supplied) (s .supplied) i;
       outstanding = table-place 16 (x .outstanding) (s .outstanding) i;
+    }
+
+pub record-kept : (r : Record) → Shape r → stored (figures r) ≡ r
+unfolding stored figures planOf
+record-kept r s =
+    λ i. record {
+      terms = r .terms;
+      counts = r .counts;
+      agreed =
+          record {
+            kind = table-place 8 (r .agreed .kind) (s .agreed .kind) i;
+            installed = table-place 8 (r .agreed .installed) (s .agreed .installed) i;
+            contracted = table-place 8 (r .agreed .contracted) (s .agreed .contracted) i;
+          };
+      links = record { link = pairs-cell (r .links .link) (s .links .link) i; loss = pairs-cell (r .links .loss) (s .links .loss) i };
+      schedule = record { kw = pairs-cell (r .schedule .kw) (s .schedule .kw) i; rank = pairs-cell (r .schedule .rank) (s .schedule .rank) i };
+      generators = generators-kept (r .generators) (s .generators) i;
+      consumers = consumers-kept (r .consumers) (s .consumers) i;
     }

@@ -1,14 +1,12 @@
 // The record of one unit, as the calls take and return it by value: 8 and 16 places always, every number a u64.
+// Its functions are called by this repository's crates only: what one requires, its callers meet.
 ghost use mathlib.Core.Path.{_≡_};
-ghost use mathlib.Core.Bool.{false};
-ghost use Prim.Native.Nat.{_+_, _*_, _<_, _≤_, min};
-ghost use lib.Dec.{ltb};
-ghost use Rattle.lists.specs.Tests.{all, within};
-ghost use Rattle.energy.specs.Limits.{mostGenerators, mostConsumers, mostUnitBlocks};
-ghost use Rattle.record.specs.Stored.{recordFrom, figures};
-ghost use Rattle.record.specs.Sound.{limit, agreedSound, pairSound, generatorSound, consumerSound, sound};
-ghost use Rattle.record.specs.Capped.{Clipped, RowTotal};
-ghost use Rattle.record.specs.SoundTests.{countsTest, agreedTest, pairRead, pairTest, generatorTest, consumerTest};
+ghost use Prim.Native.Nat.{_≤_, min};
+ghost use Rattle.lists.specs.Tests.{within};
+ghost use Rattle.energy.specs.Limits.{mostUnitBlocks};
+ghost use Rattle.record.specs.Sound.{limit, agreedSound, pairSound, generatorSound, consumerSound};
+ghost use Rattle.record.specs.Capped.{Clipped};
+ghost use Rattle.record.specs.SoundTests.{countsTest};
 
 // counts of generators and consumers, and the bank's terms: fixed at opening
 pub struct Terms {
@@ -135,7 +133,7 @@ pub const MOST_UNIT_BLOCKS: u64 = 10_000_000;
 // larger than any sound figure, and 16 of these can be added
 const CAP: u64 = 1_000_000_000_000_000_000;
 
-// ---- the test of soundness: every number of the record is arbitrary, so a term is capped before it is added
+// ---- the tests of soundness at one place: every number of the record is arbitrary, so a term is capped before it is added
 // tests are joined by & and |, which do not branch
 
 // n at a place within the agreement; beyond it only 0 is sound
@@ -145,13 +143,13 @@ fn limit_at(inside: bool, n: u64) -> u64
     if inside { n } else { 0 }
 }
 
-pub fn lower(a: u64, b: u64) -> u64
+fn lower(a: u64, b: u64) -> u64
     ensures { λ r. ⌜ r ≡ min a b ⌝ }
 {
     if a < b { a } else { b }
 }
 
-pub fn in_range(low: u64, high: u64, n: u64) -> bool
+fn in_range(low: u64, high: u64, n: u64) -> bool
     ensures { λ r. ⌜ r ≡ within low high n ⌝ }
 {
     (low <= n) & (n <= high)
@@ -163,7 +161,7 @@ pub fn capped(x: u64) -> u64
     if x < CAP { x } else { CAP }
 }
 
-fn counts_sound(t: Terms, n: Counts) -> bool
+pub fn counts_sound(t: Terms, n: Counts) -> bool
     ensures { λ r. ⌜ r ≡ countsTest t n ⌝ }
 {
     in_range(1, MOST_GENERATORS, t.generators)
@@ -176,7 +174,7 @@ fn counts_sound(t: Terms, n: Counts) -> bool
         & (n.month <= n.blocks)
 }
 
-fn agreed_sound(inside: bool, kind: u64, installed: u64, contracted: u64, total: u64) -> bool
+pub fn agreed_sound(inside: bool, kind: u64, installed: u64, contracted: u64, total: u64) -> bool
     ensures { λ r. ⌜ r ≡ agreedSound inside kind installed contracted total ⌝ }
 {
     (kind <= limit_at(inside, LAST_KIND))
@@ -185,7 +183,7 @@ fn agreed_sound(inside: bool, kind: u64, installed: u64, contracted: u64, total:
         & (total <= lower(installed, contracted))
 }
 
-fn pair_sound(inside: bool, link: u64, loss: u64, kw: u64, rank: u64) -> bool
+pub fn pair_sound(inside: bool, link: u64, loss: u64, kw: u64, rank: u64) -> bool
     ensures { λ r. ⌜ r ≡ pairSound inside link loss kw rank ⌝ }
 {
     (link <= limit_at(inside, 1))
@@ -196,7 +194,7 @@ fn pair_sound(inside: bool, link: u64, loss: u64, kw: u64, rank: u64) -> bool
 }
 
 // beyond the agreement every total is 0
-fn generator_sound(blocks: u64, inside: bool, x: GeneratorTerms) -> bool
+pub fn generator_sound(blocks: u64, inside: bool, x: GeneratorTerms) -> bool
     requires { ⌜ blocks ≤ mostUnitBlocks ⌝ }
     ensures { λ r. ⌜ r ≡ generatorSound blocks inside x ⌝ }
 {
@@ -219,7 +217,7 @@ fn generator_sound(blocks: u64, inside: bool, x: GeneratorTerms) -> bool
     }
 }
 
-fn consumer_sound(blocks: u64, inside: bool, x: ConsumerTerms) -> bool
+pub fn consumer_sound(blocks: u64, inside: bool, x: ConsumerTerms) -> bool
     requires { ⌜ blocks ≤ mostUnitBlocks ⌝ }
     ensures { λ r. ⌜ r ≡ consumerSound blocks inside x ⌝ }
 {
@@ -234,193 +232,4 @@ fn consumer_sound(blocks: u64, inside: bool, x: ConsumerTerms) -> bool
     } else {
         (x.metered | x.setoff | x.shortfall | x.drawn | x.supplied | x.outstanding) == 0
     }
-}
-
-// the kW of generator g for the first n consumers, each capped
-pub fn row_total(kw: &[u64; 128], g: usize, n: usize) -> u64
-    requires { ⌜ (g < 8) × (n ≤ 16) ⌝ }
-    ensures { λ r. ⌜ RowTotal (now (kw .entry)) g n r ⌝ }
-{
-    let mut total: u64 = 0;
-    let mut c: usize = 0;
-    while c < n {
-        total = total + capped(kw[g * 16 + c]);
-        c += 1;
-    }
-    total
-}
-
-// n generators and m consumers, here and below
-fn agreed_all_sound(a: Agreed, kw: &[u64; 128], n: usize, m: usize) -> bool
-    requires { ⌜ m ≤ mostConsumers ⌝ }
-    ensures { λ r. ⌜ r ≡ all 8 (agreedTest a (now (kw .entry)) n m) ⌝ }
-{
-    let mut ok = true;
-    let mut g: usize = 0;
-    while g < 8 {
-        let total = row_total(kw, g, m);
-        ok = ok & agreed_sound(g < n, a.kind[g], a.installed[g], a.contracted[g], total);
-        g += 1;
-    }
-    ok
-}
-
-// n places of the pair lists beyond the agreement: all 0. The numbers are joined by |, which goes through several at a time.
-fn beyond_sound<'a>(
-    link: &'a [u64; 128],
-    loss: &'a [u64; 128],
-    kw: &'a [u64; 128],
-    rank: &'a [u64; 128],
-    from: usize,
-    n: usize,
-) -> bool
-    requires { ⌜ from + n ≤ 128 ⌝ }
-    ensures { λ r. ⌜ r ≡ all n (λ i. pairRead (now (link .entry)) (now (loss .entry)) (now (kw .entry)) (now (rank .entry)) false (from + i)) ⌝ }
-{
-    let mut bits: u64 = 0;
-    let mut i: usize = 0;
-    while i < n {
-        let k = from + i;
-        bits = bits | link[k] | loss[k] | kw[k] | rank[k];
-        i += 1;
-    }
-    bits == 0
-}
-
-// row g within the agreement, 16 places of which m are within it
-fn row_sound<'a>(
-    link: &'a [u64; 128],
-    loss: &'a [u64; 128],
-    kw: &'a [u64; 128],
-    rank: &'a [u64; 128],
-    g: usize,
-    m: usize,
-) -> bool
-    requires { ⌜ (g < 8) × (m ≤ 16) ⌝ }
-    ensures { λ r. ⌜ r ≡ all 16 (λ c. pairRead (now (link .entry)) (now (loss .entry)) (now (kw .entry)) (now (rank .entry)) (ltb c m) (g * 16 + c)) ⌝ }
-{
-    let start = g * 16;
-    let mut ok = true;
-    let mut c: usize = 0;
-    while c < m {
-        let k = start + c;
-        ok = ok & pair_sound(true, link[k], loss[k], kw[k], rank[k]);
-        c += 1;
-    }
-    ok & beyond_sound(link, loss, kw, rank, start + m, 16 - m)
-}
-
-fn pairs_sound<'a>(
-    link: &'a [u64; 128],
-    loss: &'a [u64; 128],
-    kw: &'a [u64; 128],
-    rank: &'a [u64; 128],
-    n: usize,
-    m: usize,
-) -> bool
-    requires { ⌜ (n ≤ mostGenerators) × (m ≤ mostConsumers) ⌝ }
-    ensures { λ r. ⌜ r ≡ all 8 (λ g. all 16 (pairTest (now (link .entry)) (now (loss .entry)) (now (kw .entry)) (now (rank .entry)) n m g)) ⌝ }
-{
-    let mut ok = true;
-    let mut g: usize = 0;
-    while g < n {
-        ok = ok & row_sound(link, loss, kw, rank, g, m);
-        g += 1;
-    }
-    ok & beyond_sound(link, loss, kw, rank, n * 16, 128 - n * 16)
-}
-
-// the fields are read here: passing t on in a loop would copy it each turn
-fn generators_sound(t: Generators, n: usize, blocks: u64) -> bool
-    requires { ⌜ blocks ≤ mostUnitBlocks ⌝ }
-    ensures { λ r. ⌜ r ≡ all 8 (generatorTest t n blocks) ⌝ }
-{
-    let mut ok = true;
-    let mut g: usize = 0;
-    while g < 8 {
-        let x = GeneratorTerms {
-            injected: t.injected[g],
-            unaccounted: t.unaccounted[g],
-            lost: t.lost[g],
-            setoff: t.setoff[g],
-            inadvertent: t.inadvertent[g],
-            charge: t.charge[g],
-            drawn: t.drawn[g],
-            lapsed: t.lapsed[g],
-            bank: t.bank[g],
-            pending: t.pending[g],
-        };
-        ok = ok & generator_sound(blocks, g < n, x);
-        g += 1;
-    }
-    ok
-}
-
-fn consumers_sound(t: Consumers, m: usize, blocks: u64) -> bool
-    requires { ⌜ blocks ≤ mostUnitBlocks ⌝ }
-    ensures { λ r. ⌜ r ≡ all 16 (consumerTest t m blocks) ⌝ }
-{
-    let mut ok = true;
-    let mut c: usize = 0;
-    while c < 16 {
-        let x = ConsumerTerms {
-            metered: t.metered[c],
-            setoff: t.setoff[c],
-            shortfall: t.shortfall[c],
-            drawn: t.drawn[c],
-            supplied: t.supplied[c],
-            outstanding: t.outstanding[c],
-        };
-        ok = ok & consumer_sound(blocks, c < m, x);
-        c += 1;
-    }
-    ok
-}
-
-// The test of a record by its parts; the pair lists, most of a record, are lent where they lie.
-pub fn parts_sound<'a>(
-    terms: Terms,
-    counts: Counts,
-    agreed: Agreed,
-    link: &'a [u64; 128],
-    loss: &'a [u64; 128],
-    kw: &'a [u64; 128],
-    rank: &'a [u64; 128],
-    generators: Generators,
-    consumers: Consumers,
-) -> bool
-    ensures { λ b. ⌜ b ≡ sound (figures (recordFrom terms counts agreed (now (link .entry)) (now (loss .entry)) (now (kw .entry)) (now (rank .entry)) generators consumers)) ⌝ }
-{
-    if counts_sound(terms, counts) {
-        let n = terms.generators as usize;
-        let m = terms.consumers as usize;
-        let blocks = counts.blocks;
-        agreed_all_sound(agreed, kw, n, m)
-            & pairs_sound(link, loss, kw, rank, n, m)
-            & generators_sound(generators, n, blocks)
-            & consumers_sound(consumers, m, blocks)
-    } else {
-        false
-    }
-}
-
-pub fn is_sound(r: Record) -> bool
-    ensures { λ b. ⌜ b ≡ sound (figures r) ⌝ }
-{
-    let terms = r.terms;
-    let counts = r.counts;
-    let agreed = r.agreed;
-    let generators = r.generators;
-    let consumers = r.consumers;
-    parts_sound(
-        terms,
-        counts,
-        agreed,
-        &r.links.link,
-        &r.links.loss,
-        &r.schedule.kw,
-        &r.schedule.rank,
-        generators,
-        consumers,
-    )
 }

@@ -6,7 +6,7 @@ use lib.ListN.{take}
 use Rattle.table.specs.Table.{values}
 use Rattle.table.specs.declared.Read.{Read}
 use Rattle.table.specs.declared.Read.the-variants.{Lines, Refused}
-use Rattle.report.specs.Display.{space, tableNumber}
+use Rattle.report_rules.specs.Display.{space, tableNumber}
 
 -- The table's number; where it is 0, the values of k lines, three a line, stand at the start of last.
 unfoldable pub InputRead : List ℕ → Read → List ℕ → Type 0

@@ -14,10 +14,10 @@ use Rattle.table.specs.Table.{inRange, startsWithNames, laterLines, wellFormed,
 use Rattle.table.specs.ReadMeetsLaws.{lines-read, shows, refusal}
 use Rattle.table.specs.declared.Read.{Read}
 use Rattle.table.specs.declared.Read.the-variants.{Lines, Refused}
-use Rattle.report.specs.Display.{mostInput, space, tableNumber, accountText, refusedText, display}
+use Rattle.report_rules.specs.Display.{mostInput, space, tableNumber, accountText, refusedText, display}
 use Rattle.report.specs.Input.{InputRead}
-use Rattle.report.specs.Printing.{Shows}
-use Rattle.report.specs.declared.Printed.{Printed}
+use Rattle.display.specs.Printing.{Shows}
+use Rattle.display.specs.declared.Printed.{Printed}
 
 -- ---- the names line
 

@@ -1,10 +1,3 @@
-pub mod Words
-pub mod Display
 pub mod Input
-pub mod Printing
-pub mod PrintingLaws
-pub mod Carried
-pub mod CarriedLaws
-pub mod Entering
+pub mod AccountLaws
 pub mod InputLaws
-pub mod Cases

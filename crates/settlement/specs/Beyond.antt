@@ -10,11 +10,11 @@ use Rattle.energy.specs.EnergyLaws.{loss-zero}
 use Rattle.order.specs.SettleLaws.{unmet-le}
 use Rattle.delivery.specs.Plan.{Plan, deemed, order}
 use Rattle.delivery.specs.Delivery.{unaccounted, lossOf, delivered, atExit}
-use Rattle.delivery.specs.Arrays.{Deliverable}
-use Rattle.delivery.specs.DeliverLaws.{part-of-no-kw}
+use Rattle.delivery.specs.Deliverable.{Deliverable}
+use Rattle.delivery.specs.DeliveryLaws.{part-of-no-kw}
 use Rattle.settlement.specs.Settlement.{setOff, afterSetOff, underdrawn, shortfall, remainder}
 use Rattle.settlement.specs.SettlementLaws.{setOff-le, shortfall-le}
-use Rattle.settlement.specs.Arrays.{Settleable}
+use Rattle.settlement.specs.Settleable.{Settleable}
 
 module _ (p : Plan) (g e c : ℕ) (none : p .kw g c ≡ 0) where
   loss-unscheduled : lossOf p g e c ≡ 0

@@ -1,6 +1,5 @@
 pub mod Settlement
 pub mod SettlementLaws
-pub mod Arrays
-pub mod Consumers
+pub mod Settleable
 pub mod Beyond
-pub mod ListsLaws
+pub mod Places

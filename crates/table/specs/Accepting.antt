@@ -14,8 +14,10 @@ use Rattle.lists.specs.Tests.{and-left, and-right, and-both}
 use Rattle.lists.specs.Refusals.{firstOf}
 use Rattle.table_text.specs.TableText.{digits, decimal, separatorAfter, printed, namesLine, tableText}
 use Rattle.table_text.specs.TableTextLaws.{digits-one, digits-step}
-use Rattle.table.specs.Table.{inRange, startsWithNames, laterLines, isDigit, numbers, values, largest, allFit, wellFormed, readNumber}
-use Rattle.table.specs.TableLaws.{is-digit, separator-no-digit, numbers-digit, numbers-end, same-true, same-self, same-is, formed}
+use Rattle.table_scan.specs.Values.{isDigit, largest}
+use Rattle.table_scan.specs.ScanLaws.{is-digit}
+use Rattle.table.specs.Table.{inRange, startsWithNames, laterLines, numbers, values, allFit, wellFormed, readNumber}
+use Rattle.table.specs.TableLaws.{separator-no-digit, numbers-digit, numbers-end, same-true, same-self, same-is, formed}
 
 -- ---- the numbers of a printed list are the list
 

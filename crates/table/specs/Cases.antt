@@ -5,7 +5,8 @@ use Prim.Native.Nat.{ℕ}
 use Rattle.lists.specs.Tests.{within}
 use Rattle.lists.specs.Refusals.{firstOf}
 use Rattle.table_text.specs.TableText.{digits, decimal, separatorAfter, printed, name, names, namesLine, tableText}
-use Rattle.table.specs.Table.{inRange, same, startsWithNames, laterLines, isDigit, numbers, values, allFit, wellFormed, readNumber, readAnswer, fromStart, readOutput}
+use Rattle.table_scan.specs.Values.{isDigit}
+use Rattle.table.specs.Table.{inRange, same, startsWithNames, laterLines, numbers, values, allFit, wellFormed, readNumber, readAnswer, fromStart, readOutput}
 use Rattle.table.specs.declared.Read.the-variants.{Lines, Refused}
 
 -- the bytes of document 01's table: E1,R1,R2 and the lines 70001,20000,60000 and 30000,5000,0

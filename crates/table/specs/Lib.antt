@@ -1,7 +1,6 @@
 pub mod Table
 pub mod Cases
 pub mod TableLaws
-pub mod Scan
 pub mod Parts
 pub mod Scanning
 pub mod Loops

@@ -10,26 +10,15 @@ use lib.ListN.{length, take, drop, getD, set, length-take, length-drop, length-a
 use lib.Seq.{drop-cons, take-suc, set-at, take-all, getD-take, take-length}
 use Rattle.lists.specs.Choice.{if_then_else_}
 use Rattle.table_text.specs.TableText.{separatorAfter}
-use Rattle.table.specs.Table.{same, isDigit, numbers, largest, wellFormed}
+use Rattle.table_scan.specs.Values.{isDigit, largest}
+use Rattle.table_scan.specs.Scan.{addDigit, firstByte, laterByte, nextByte, valuesEnded, wholeLines, scan, valuesIn, valueSoFar}
+use Rattle.table_scan.specs.declared.Progress.{Progress}
+use Rattle.table_scan.specs.declared.Progress.the-variants.{Start, Digits, Malformed}
+use Rattle.table.specs.Table.{same, numbers, wellFormed}
 use Rattle.table.specs.TableLaws.{never, numbers-digit, numbers-end, same-is, same-false}
-use Rattle.table.specs.Scan.{addDigit, firstByte, laterByte, nextByte, valuesEnded, wholeLines, scan, valuesIn, valueSoFar}
-use Rattle.table.specs.declared.Progress.{Progress}
-use Rattle.table.specs.declared.Progress.the-variants.{Start, Digits, Malformed}
 use Rattle.table.specs.Scanning.{scan-malformed, scan-is, formed-scans, length-numbers}
 
 -- ---- one byte
-
-pub next-start : (at : Progress) (b sep : ℕ) (r : Progress) → at ≡ Start → r ≡ firstByte b → r ≡ nextByte at b sep
-unfolding nextByte
-next-start at b sep r e h = rw e h
-
-pub next-digits : (at : Progress) (n b sep : ℕ) (r : Progress) → at ≡ Digits n → r ≡ laterByte n b sep → r ≡ nextByte at b sep
-unfolding nextByte
-next-digits at n b sep r e h = rw e h
-
-pub next-malformed : (at : Progress) (b sep : ℕ) → at ≡ Malformed → Malformed ≡ nextByte at b sep
-unfolding nextByte
-next-malformed at b sep e = rw e
 
 next-byte : (s : List ℕ) (i : ℕ) → i < length s → drop i s ≡ getD s i 0 ∷ drop (i + 1) s
 next-byte s i h = rw add-one (drop-cons s i 0 h)

@@ -13,11 +13,13 @@ use Rattle.lists.specs.Choice.{if_then_else_}
 use Rattle.lists.specs.Tests.{and-left, and-right, and-both}
 use Rattle.table_text.specs.TableText.{digits, decimal, separatorAfter, printed}
 use Rattle.table_text.specs.TableTextLaws.{digits-one, digits-step, decimal-one, decimal-more}
-use Rattle.table.specs.Table.{isDigit, numbers, largest, allFit, wellFormed}
-use Rattle.table.specs.TableLaws.{never, digit-low, digit-high, is-digit, separator-no-digit, numbers-digit, numbers-end, same-is, formed}
-use Rattle.table.specs.Scan.{addDigit, firstByte, laterByte, nextByte, valuesEnded, wholeLines, scan, valuesIn, valueSoFar}
-use Rattle.table.specs.declared.Progress.{Progress}
-use Rattle.table.specs.declared.Progress.the-variants.{Start, Digits, Malformed}
+use Rattle.table_scan.specs.Values.{isDigit, largest}
+use Rattle.table_scan.specs.Scan.{addDigit, firstByte, laterByte, nextByte, valuesEnded, wholeLines, scan, valuesIn, valueSoFar}
+use Rattle.table_scan.specs.ScanLaws.{digit-low, digit-high, is-digit}
+use Rattle.table_scan.specs.declared.Progress.{Progress}
+use Rattle.table_scan.specs.declared.Progress.the-variants.{Start, Digits, Malformed}
+use Rattle.table.specs.Table.{numbers, allFit, wellFormed}
+use Rattle.table.specs.TableLaws.{never, separator-no-digit, numbers-digit, numbers-end, same-is, formed}
 
 -- ---- one byte
 

@@ -1,4 +1,5 @@
 -- The readings table (document 01): what reading a text gives. How a table is written: TableText of the crate table_text.
+-- The digits and the limit of a value: Values of the crate table_scan.
 -- A text is its list of bytes; places count from 0. Assumes nothing.
 use mathlib.Core.Path.{_≡_}
 use mathlib.Core.Bool.{Bool, true, false, not, _&&_}
@@ -10,6 +11,7 @@ use Rattle.lists.specs.Choice.{if_then_else_}
 use Rattle.lists.specs.Tests.{within}
 use Rattle.lists.specs.Refusals.{firstOf}
 use Rattle.table_text.specs.TableText.{printed, namesLine}
+use Rattle.table_scan.specs.Values.{isDigit, largest}
 use Rattle.table.specs.declared.Read.{Read}
 use Rattle.table.specs.declared.Read.the-variants.{Lines, Refused}
 
@@ -34,10 +36,6 @@ startsWithNames g c text = same (namesLine g c) (take (length (namesLine g c)) t
 unfoldable pub laterLines : ℕ → ℕ → List ℕ → List ℕ
 laterLines g c text = drop (length (namesLine g c)) text
 
--- The digits 0 to 9 are the bytes 48 to 57
-unfoldable pub isDigit : ℕ → Bool
-isDigit b = within 48 57 b
-
 -- The numbers in a text, where n is what its digits made so far (0 at the start).
 -- A digit goes on with the number, any other byte ends it; digits at the end of the text make no number.
 unfoldable pub numbers : ℕ → List ℕ → List ℕ
@@ -49,10 +47,6 @@ unfoldable pub values : ℕ → ℕ → List ℕ → List ℕ
 values g c text = numbers 0 (laterLines g c text)
 
 -- ---- Well formed lines
-
--- A value is 'at most 4,294,967,295'
-abbrev pub largest : ℕ
-largest = 4294967295
 
 unfoldable pub allFit : List ℕ → Bool
 allFit [] = true

@@ -1,4 +1,4 @@
--- Laws of the definitions of Table: digits, numbers, texts that are the same, well formed lines, the range of G and C. Assumes nothing.
+-- Laws of the definitions of Table: separators, numbers, texts that are the same, well formed lines, the range of G and C. Assumes nothing.
 use Prim.Native.Nat.{ℕ, _+_, _-_, _*_, _%_, _≤_}
 use mathlib.Core.Path.{_≡_, refl}
 use mathlib.Core.Bool.{Bool, true, false, _&&_, false≢true}
@@ -7,26 +7,15 @@ use borrow.Author.Tests.{eq-eqb, eqb-true}
 use lib.Dec.{eqb}
 use lib.ListN.{length}
 use Rattle.lists.specs.Choice.{if_then_else_}
-use Rattle.lists.specs.Tests.{and-left, and-right, and-both, within, within-low, within-high, within-from}
+use Rattle.lists.specs.Tests.{and-left, and-right, and-both, within, within-low, within-high}
 use Rattle.table_text.specs.TableText.{separatorAfter, printed}
-use Rattle.table.specs.Table.{inRange, same, isDigit, numbers, allFit, wellFormed}
+use Rattle.table_scan.specs.Values.{isDigit}
+use Rattle.table.specs.Table.{inRange, same, numbers, allFit, wellFormed}
 
 pub never : {A : Type 0} → _≡_ {A = Bool} false true → A
 never h = absurd (false≢true h)
 
--- ---- digits
-
-pub digit-low : (b : ℕ) → isDigit b ≡ true → 48 ≤ b
-unfolding isDigit
-digit-low b h = within-low 48 57 b h
-
-pub digit-high : (b : ℕ) → isDigit b ≡ true → b ≤ 57
-unfolding isDigit
-digit-high b h = within-high 48 57 b h
-
-pub is-digit : (b : ℕ) → 48 ≤ b → b ≤ 57 → isDigit b ≡ true
-unfolding isDigit
-is-digit b l h = within-from 48 57 b l h
+-- ---- separators
 
 pub separator-no-digit : (w k : ℕ) → isDigit (separatorAfter w k) ≡ false
 unfolding isDigit separatorAfter within

@@ -3,9 +3,9 @@ ghost use mathlib.Core.Path.{_≡_};
 ghost use mathlib.Core.Bool.{true};
 ghost use Prim.Native.Nat.{_/_, _<_};
 ghost use lib.ListN.{length, take};
-ghost use Rattle.table.specs.Table.{isDigit, numbers, same, wellFormed, inRange, fromStart, ReadMeets};
-ghost use Rattle.table.specs.Scan.{addDigit, firstByte, laterByte, nextByte, valuesEnded, wholeLines, valueSoFar};
+ghost use Rattle.table.specs.Table.{numbers, same, wellFormed, inRange, fromStart, ReadMeets};
 ghost use Rattle.table.specs.Parts.{Writable, LinesMeet, namesLength};
+use table_scan::Progress;
 use table_text::put_names;
 use table_text::separator_after;
 
@@ -13,103 +13,6 @@ use table_text::separator_after;
 pub enum Read {
     Lines(usize),
     Refused(u32),
-}
-
-// How far the reading of one value has come: not begun, some digits, or a byte that cannot stand there.
-pub enum Progress {
-    Start,
-    Digits(u32),
-    Malformed,
-}
-
-fn is_digit(b: u8) -> bool
-    ensures { λ r. ⌜ r ≡ isDigit b ⌝ }
-{
-    if b < b'0' {
-        return false;
-    }
-    b <= b'9'
-}
-
-// The digit d after digits that make n: a value has no leading zero, and fits 32 bits.
-fn add_digit(n: u32, d: u32) -> Progress
-    requires { ⌜ d < 10 ⌝ }
-    ensures { λ r. ⌜ r ≡ addDigit n d ⌝ }
-{
-    if n == 0 {
-        return Progress::Malformed;
-    }
-    let m = (n as u64) * 10 + (d as u64);
-    if m <= 4_294_967_295 {
-        Progress::Digits(m as u32)
-    } else {
-        Progress::Malformed
-    }
-}
-
-// The byte b where a value begins.
-fn first_byte(b: u8) -> Progress
-    ensures { λ r. ⌜ r ≡ firstByte b ⌝ }
-{
-    if is_digit(b) {
-        return Progress::Digits((b - b'0') as u32);
-    }
-    Progress::Malformed
-}
-
-// The byte b after digits that make n, where sep is the separator that may end the value.
-fn later_byte(n: u32, b: u8, sep: u8) -> Progress
-    ensures { λ r. ⌜ r ≡ laterByte n b sep ⌝ }
-{
-    if is_digit(b) {
-        return add_digit(n, (b - b'0') as u32);
-    }
-    if b == sep {
-        return Progress::Start;
-    }
-    Progress::Malformed
-}
-
-fn next_byte(at: Progress, b: u8, sep: u8) -> Progress
-    ensures { λ r. ⌜ r ≡ nextByte at b sep ⌝ }
-{
-    match at {
-        Progress::Start => first_byte(b),
-        Progress::Digits(n) => later_byte(n, b, sep),
-        Progress::Malformed => Progress::Malformed,
-    }
-}
-
-// How many values the byte b ends: one, unless it is a digit.
-fn values_ended(b: u8) -> usize
-    ensures { λ r. ⌜ r ≡ valuesEnded b ⌝ }
-{
-    if is_digit(b) {
-        return 0;
-    }
-    1
-}
-
-// Whether a text may end here, after k values.
-fn whole_lines(w: usize, k: usize, at: Progress) -> bool
-    requires { ⌜ 0 < w ⌝ }
-    ensures { λ r. ⌜ r ≡ wholeLines w k at ⌝ }
-{
-    match at {
-        Progress::Start => k % w == 0,
-        Progress::Digits(_) => false,
-        Progress::Malformed => false,
-    }
-}
-
-fn value_so_far(at: Progress) -> u32
-    ensures { λ r. ⌜ r ≡ valueSoFar at ⌝ }
-{
-    match at {
-        Progress::Start => 0,
-        Progress::Digits(n) => n,
-        Progress::Malformed => 0,
-    }
 }
 
 // Whether s is lines of w values.
@@ -123,11 +26,11 @@ fn well_formed(w: usize, s: &[u8]) -> bool
     while i < s.len() {
         let b = s[i];
         let sep = separator_after(w, k);
-        at = next_byte(at, b, sep);
-        k += values_ended(b);
+        at = table_scan::next_byte(at, b, sep);
+        k += table_scan::values_ended(b);
         i += 1;
     }
-    whole_lines(w, k, at)
+    table_scan::whole_lines(w, k, at)
 }
 
 fn count_values(s: &[u8]) -> usize
@@ -136,7 +39,7 @@ fn count_values(s: &[u8]) -> usize
     let mut k: usize = 0;
     let mut i: usize = 0;
     while i < s.len() {
-        k += values_ended(s[i]);
+        k += table_scan::values_ended(s[i]);
         i += 1;
     }
     k
@@ -160,12 +63,12 @@ fn write_values(w: usize, s: &[u8], out: &mut [u32])
     let mut i: usize = 0;
     while i < s.len() {
         let b = s[i];
-        if !is_digit(b) {
-            out[k] = value_so_far(at);
+        if !table_scan::is_digit(b) {
+            out[k] = table_scan::value_so_far(at);
         }
         let sep = separator_after(w, k);
-        at = next_byte(at, b, sep);
-        k += values_ended(b);
+        at = table_scan::next_byte(at, b, sep);
+        k += table_scan::values_ended(b);
         i += 1;
     }
 }

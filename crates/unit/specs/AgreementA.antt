@@ -1,6 +1,6 @@
 -- Document 01, "Readings table": agreement A and its schedule. Assumes nothing.
 use mathlib.Core.List.{[], _∷_}
-use Rattle.agreement.specs.Opening.{Opening}
+use Rattle.agreement_rules.specs.Opening.{Opening}
 use Rattle.unit.specs.Calls.{Call, schedule}
 
 -- G = 1, C = 2; kind 1, 1,000, 800; links 1, losses 1,000 and 500; rate 1,000, cycle 2, gone 0

@@ -15,9 +15,9 @@ use Rattle.delivery.specs.Plan.{Plan, deemed, scheduled, order, suppliers}
 use Rattle.delivery.specs.Delivery.{counted, unaccounted, partOf, lossOf, delivered, atExit}
 use Rattle.settlement.specs.Settlement.{setOff, afterSetOff, underdrawn, shortfall, remainder, blockLists, blockOutput}
 use Rattle.record.specs.Book.{Book, noInjection, noConsumption}
-use Rattle.agreement.specs.Opening.{Opening, kindOf, installedOf, contractedOf, linkOf, rateOfLoss, openingRefusal, opened}
-use Rattle.agreement.specs.Schedule.{newKw, newRank, scheduleRefusal, afterSchedule, scheduleRule}
-use Rattle.block.specs.Block.{generatorAfterBlock, consumerAfterBlock, afterBlock, blockLength, entryOf, exitOf, blockRefusal, blockRule}
+use Rattle.agreement_rules.specs.Opening.{Opening, kindOf, installedOf, contractedOf, linkOf, rateOfLoss, openingRefusal, opened}
+use Rattle.agreement_rules.specs.Schedule.{newKw, newRank, scheduleRefusal, afterSchedule, scheduleRule}
+use Rattle.block_rules.specs.Block.{generatorAfterBlock, consumerAfterBlock, afterBlock, blockLength, entryOf, exitOf, blockRefusal, blockRule}
 use Rattle.bank.specs.Drawing.{stockAt, drawnAt, missingAt}
 use Rattle.bank.specs.Closing.{takenUp, charge, credited, banks, drawn, supplied, lapses, goneAfter, bankBeforeLapse, lapsed, bankAfter, generatorAfterClosing, consumerAfterClosing, afterClosing, closingLists, closingOutput, closingLength, closingRefusal, closingRule}
 use Rattle.unit.specs.AgreementA.{agreementA, scheduleA}

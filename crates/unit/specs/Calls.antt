@@ -6,8 +6,8 @@ use lib.Dec.{eqb}
 use Rattle.lists.specs.Choice.{if_then_else_}
 use Rattle.record.specs.Book.{Book}
 use Rattle.record.specs.Called.{Rule}
-use Rattle.agreement.specs.Schedule.{scheduleRule}
-use Rattle.block.specs.Block.{blockRule}
+use Rattle.agreement_rules.specs.Schedule.{scheduleRule}
+use Rattle.block_rules.specs.Block.{blockRule}
 use Rattle.bank.specs.Closing.{closingRule}
 
 -- What the book is fed of a call: its inputs and the length of its output, nothing that the unit's record or outputs hold.

@@ -22,12 +22,12 @@ use Rattle.record.specs.Called.{Rule, numberOn, recordAfter, outputAfter, Calle
 use Rattle.record.specs.CalledLaws.{Keeps, stays-sound, stored-sound, stored-number, stored-record, stored-output, called}
 use Rattle.record.specs.declared.Record.{Record}
 use Rattle.record.specs.declared.Answer.{Answer}
-use Rattle.agreement.specs.Opening.{Opening, linkOf, openingRefusal, opened, Opened, Permitted}
-use Rattle.agreement.specs.OpeningLaws.{permitted-accepted, opened-facts}
-use Rattle.agreement.specs.Schedule.{afterSchedule, scheduleRule}
-use Rattle.agreement.specs.ScheduleLaws.{schedule-keeps}
-use Rattle.block.specs.Block.{afterBlock, entryOf, exitOf, blockRule}
-use Rattle.block.specs.BlockLaws.{block-keeps, block-setoff, block-drawn}
+use Rattle.agreement_rules.specs.Opening.{Opening, linkOf, openingRefusal, opened, Opened, Permitted}
+use Rattle.agreement_rules.specs.OpeningLaws.{permitted-accepted, opened-facts}
+use Rattle.agreement_rules.specs.Schedule.{afterSchedule, scheduleRule}
+use Rattle.agreement_rules.specs.ScheduleLaws.{schedule-keeps}
+use Rattle.block_rules.specs.Block.{afterBlock, entryOf, exitOf, blockRule}
+use Rattle.block_rules.specs.BlockLaws.{block-keeps, block-setoff, block-drawn}
 use Rattle.bank.specs.Closing.{afterClosing, closingOutput, closingLength, closingRule, bankBeforeLapse, supplied}
 use Rattle.bank.specs.ClosingLaws.{closing-keeps, closing-setoff, closing-drawn, before-lapse-is, none-idle}
 use Rattle.bank.specs.ClosingOutput.{closing-length, lapsed-at, bank-at, supplied-at}

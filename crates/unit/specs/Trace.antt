@@ -5,8 +5,8 @@ use mathlib.Core.Path.{_≡_}
 use lib.ListN.{length}
 use Rattle.record.specs.declared.Record.{Record}
 use Rattle.record.specs.declared.Answer.{Answer}
-use Rattle.agreement.specs.Schedule.{Scheduled}
-use Rattle.block.specs.Block.{Blocked}
+use Rattle.agreement_rules.specs.Schedule.{Scheduled}
+use Rattle.block_rules.specs.Block.{Blocked}
 use Rattle.bank.specs.Closing.{Closed}
 use Rattle.unit.specs.Calls.{Call, schedule, block, closing}
 

@@ -6,11 +6,12 @@ use lib.ListN.{length, take}
 use Rattle.codec.specs.Bytes.{encode}
 use Rattle.record.specs.Stored.{stored}
 use Rattle.record.specs.Words.{words}
-use Rattle.agreement.specs.Opening.{Opening, opened, Permitted}
+use Rattle.agreement_rules.specs.Opening.{Opening, opened, Permitted}
 use Rattle.unit.specs.Calls.{Call, bookAfter, Entry, bookAnswers}
 use Rattle.unit.specs.Trace.{callOf}
 use Rattle.unit.specs.Demand3.{Demand3}
-use Rattle.wheeling.specs.Wheeling.{recordBytes, recordIn, bytesAfter, openingIn, ByteOpened}
+use Rattle.layout_rules.specs.OnBytes.{recordIn, bytesAfter}
+use Rattle.wheeling_rules.specs.Wheeling.{recordBytes, openingIn, ByteOpened}
 use Rattle.wheeling_book.specs.ByteTrace.{ByteAsk, askIn, bytesLent, ByteGiven, givenIn, ByteTrace, lastBytes}
 
 -- The number is the book's. The output's bytes are those of the book's output where the call was accepted, else as they were lent.

@@ -21,19 +21,20 @@ use Rattle.record.specs.Called.{Called}
 use Rattle.record.specs.CalledLaws.{stored-number, stored-record, stored-output}
 use Rattle.record.specs.declared.Record.{Record}
 use Rattle.record.specs.declared.Answer.{Answer}
-use Rattle.layout.specs.LayoutLaws.{bytes-of-stored, record-of-bytes}
-use Rattle.agreement.specs.Opening.{Opening, openingRefusal, opened, Opened, Permitted}
-use Rattle.agreement.specs.OpeningLaws.{permitted-accepted}
-use Rattle.agreement.specs.Schedule.{scheduleRule, Scheduled}
-use Rattle.block.specs.Block.{blockRule}
-use Rattle.block.specs.Accepted.{block-output-moderate}
+use Rattle.layout_rules.specs.LayoutLaws.{bytes-of-stored, record-of-bytes}
+use Rattle.agreement_rules.specs.Opening.{Opening, openingRefusal, opened, Opened, Permitted}
+use Rattle.agreement_rules.specs.OpeningLaws.{permitted-accepted}
+use Rattle.agreement_rules.specs.Schedule.{scheduleRule, Scheduled}
+use Rattle.block_rules.specs.Block.{blockRule}
+use Rattle.block_rules.specs.Accepted.{block-output-moderate}
 use Rattle.bank.specs.Closing.{closingRule}
-use Rattle.closing.specs.RoomLaws.{closing-output-moderate}
+use Rattle.closing_rules.specs.RoomLaws.{closing-output-moderate}
 use Rattle.unit.specs.Calls.{Call, schedule, block, closing, ruleOf, next, bookAfter, bookAnswers}
 use Rattle.unit.specs.Trace.{Ask, askSchedule, askBlock, askClosing, callOf, Given, Done, Trace, trace-none, trace-one, lastRecord}
 use Rattle.unit.specs.Demand3Proof.{Kept, next-kept, opened-kept, demand-3, given, every-opening}
-use Rattle.wheeling.specs.Wheeling.{recordBytes, recordIn, numbersIn, bytesAfter, Stored, OnBytes, openingIn, ByteOpened}
-use Rattle.wheeling.specs.ReadingLaws.{numbers-encode, numbers-none, no-bytes}
+use Rattle.layout_rules.specs.OnBytes.{recordIn, bytesAfter}
+use Rattle.wheeling_rules.specs.Wheeling.{recordBytes, numbersIn, Stored, OnBytes, openingIn, ByteOpened}
+use Rattle.wheeling_rules.specs.ReadingLaws.{numbers-encode, numbers-none, no-bytes}
 use Rattle.wheeling_book.specs.ByteTrace.{ByteAsk, byteSchedule, byteBlock, byteClosing, askIn, bytesLent, ByteGiven, givenIn, ByteDone, ByteTrace, bytes-none, bytes-one, lastBytes}
 use Rattle.wheeling_book.specs.ByteDemand3.{ByteMatch, ByteMatches, match-none, match-one, callsIn, ByteDemand3, ByteClaim}
 

@@ -3,7 +3,8 @@ use Prim.Native.Nat.{ℕ}
 use mathlib.Core.List.{List, [], _∷_}
 use mathlib.Core.Path.{_≡_}
 use Rattle.unit.specs.Trace.{Ask, askSchedule, askBlock, askClosing, Given}
-use Rattle.wheeling.specs.Wheeling.{recordIn, numbersIn, ByteScheduled, ByteBlocked, ByteClosed}
+use Rattle.layout_rules.specs.OnBytes.{recordIn}
+use Rattle.wheeling_rules.specs.Wheeling.{numbersIn, ByteScheduled, ByteBlocked, ByteClosed}
 
 -- the arguments of a call, with the output's bytes as they are lent
 pub data ByteAsk : Type 0 where

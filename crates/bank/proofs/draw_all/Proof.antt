@@ -28,7 +28,9 @@ array-read-draw : tie.Need-array-read-draw Inv-loop μ-loop
 array-read-draw c = search needs
 
 draw-requires : tie.Need-draw-requires Inv-loop μ-loop
-draw-requires c κs = search needs
+draw-requires c κs =
+    let p = c .before .before .pre in
+    (search needs, (p .G-high, λ g. p .rank-high g (c .before .loop .c)))
 
 put-column-requires : tie.Need-put-column-requires Inv-loop μ-loop
 put-column-requires c κs = search needs

@@ -1,33 +1,46 @@
--- `block::block` meets its contract: the call gives what `Blocked` says, accepted or refused.
-use Rattle.block.specs.Accepted.{block-accepted, block-refused}
-use Rattle.record.specs.Shape.{PairLists}
-use lib.ListN.{length-map}
-use mathlib.Core.Path.{_∙_, sym}
+-- `block::block` meets its contract: the call on the record's bytes is the call on the record.
+use mathlib.Core.Path.{_∙_}
 use borrow.Author.Needs.{needs}
+use Rattle.layout_rules.specs.OnBytes.{recordIn}
+use Rattle.layout_rules.specs.OnBytesLaws.{on-struct}
+use Rattle.block_rules.specs.BlockLaws.{block-keeps}
 use Rattle.block.proofs.block.Statement.{statement}
 use Rattle.block.proofs.block.Tie as tie
 
-refusal-on-requires : tie.Need-refusal-on-requires
-refusal-on-requires c κs = search needs
+slice-aggregate-store : tie.Need-slice-aggregate-store
+slice-aggregate-store c = search needs
 
--- a struct by value has the lists of its type
-lists : (c : tie.Start) → let r = c .args .t1 in PairLists (r .links .link) (r .links .loss) (r .schedule .kw) (r .schedule .rank)
-lists c =
-    let links = c .good .0 .1 .1 .1 .1 .1 .0 .1 .1 in
-    let schedule = c .good .0 .1 .1 .1 .1 .1 .1 .0 .1 .1 in
-    record { links = record { link = simp length-map at (links .0 .1 .0 .1); loss = simp length-map at (links .1 .0 .1 .0 .1) }; schedule = record { kw = simp length-map at (schedule .0 .1 .0 .1); rank = simp length-map at (schedule .1 .0 .1 .0 .1) } }
+store-requires : tie.Need-store-requires
+store-requires c κs = search needs
 
-enter-requires : tie.Need-enter-requires
-enter-requires c κs = (lists (c .before .before .before .before .before .before .before .before .before .before .before .before .before .before .before .before .before .before .before .before .before), sym (c .before .before .before .before .before .before .before .refusal-on .ensures) ∙ c .before .before .before .before .before .before .if1 .taken)
+slice-aggregate-block-on : tie.Need-slice-aggregate-block-on
+slice-aggregate-block-on c = search needs
+
+block-on-requires : tie.Need-block-on-requires
+block-on-requires c κs = search needs
+
+slice-aggregate-load : tie.Need-slice-aggregate-load
+slice-aggregate-load c = search needs
+
+load-requires : tie.Need-load-requires
+load-requires c κs = search needs
 
 same-length : tie.Need-same-length
 same-length c = search needs
 
 returns : tie.Need-returns
-returns c = block-accepted _ _ _ _ (sym (c .before .before .before .before .before .before .before .before .before .before .before .before .before .refusal-on .ensures) ∙ c .before .before .before .before .before .before .before .before .before .before .before .before .if1 .taken) (c .before .before .before .before .before .enter .ensures)
-
-returns-2 : tie.Need-returns-2
-returns-2 c = block-refused _ _ _ _ (c .before .refusal-on .ensures) (c .if1 .left)
+unfolding recordIn
+returns c = rw (c .load .ensures) (on-struct _ (block-keeps _ _ _) (c .before .before .before .before .before .before .before .before .before .store .ensures .1) (c .before .before .before .before .before .block-on .ensures))
 
 pub block-spec : {M : Type 1} → statement M
-block-spec = tie.close (tie.spec refusal-on-requires enter-requires same-length returns returns-2)
+block-spec =
+    tie.close
+    (tie.spec
+    slice-aggregate-store
+    store-requires
+    slice-aggregate-block-on
+    block-on-requires
+    slice-aggregate-load
+    load-requires
+    same-length
+    returns)

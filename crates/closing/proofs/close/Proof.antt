@@ -1,32 +1,46 @@
--- `closing::close` meets its contract: the call gives what `Closed` says, accepted or refused.
-use lib.ListN.{length-map}
-use mathlib.Core.Path.{_∙_, sym}
-use Rattle.closing.specs.Accepted.{close-accepted, close-refused}
+-- `closing::close` meets its contract: the call on the record's bytes is the call on the record.
+use mathlib.Core.Path.{_∙_}
 use borrow.Author.Needs.{needs}
+use Rattle.layout_rules.specs.OnBytes.{recordIn}
+use Rattle.layout_rules.specs.OnBytesLaws.{on-struct}
+use Rattle.bank.specs.ClosingLaws.{closing-keeps}
 use Rattle.closing.proofs.close.Statement.{statement}
 use Rattle.closing.proofs.close.Tie as tie
 
-refusal-on-requires : tie.Need-refusal-on-requires
-refusal-on-requires c κs = search needs
+slice-aggregate-store : tie.Need-slice-aggregate-store
+slice-aggregate-store c = search needs
+
+store-requires : tie.Need-store-requires
+store-requires c κs = search needs
+
+slice-aggregate-close-on : tie.Need-slice-aggregate-close-on
+slice-aggregate-close-on c = search needs
 
 close-on-requires : tie.Need-close-on-requires
-close-on-requires c κs =
-    let fields = c .before .before .before .before .before .before .before .before .before .before .before .before .before .before .before .before .before .before .before .good .0 .1 .1 .1 .1 .1 in (
-      record {
-        links = record { link = simp length-map at (fields .0 .1 .1 .0 .1 .0 .1); loss = simp length-map at (fields .0 .1 .1 .1 .0 .1 .0 .1) };
-        schedule = record { kw = simp length-map at (fields .1 .0 .1 .1 .0 .1 .0 .1); rank = simp length-map at (fields .1 .0 .1 .1 .1 .0 .1 .0 .1) };
-      },
-      sym (c .before .before .before .before .before .before .before .refusal-on .ensures) ∙ c .before .before .before .before .before .before .if1 .taken,
-    )
+close-on-requires c κs = search needs
+
+slice-aggregate-load : tie.Need-slice-aggregate-load
+slice-aggregate-load c = search needs
+
+load-requires : tie.Need-load-requires
+load-requires c κs = search needs
 
 same-length : tie.Need-same-length
 same-length c = search needs
 
 returns : tie.Need-returns
-returns c = close-accepted _ _ (sym (c .before .before .before .before .before .before .before .before .before .before .before .before .before .refusal-on .ensures) ∙ c .before .before .before .before .before .before .before .before .before .before .before .before .if1 .taken) (c .before .before .before .before .before .close-on .ensures)
-
-returns-2 : tie.Need-returns-2
-returns-2 c = close-refused _ _ (c .before .refusal-on .ensures) (c .if1 .left)
+unfolding recordIn
+returns c = rw (c .load .ensures) (on-struct _ (closing-keeps _) (c .before .before .before .before .before .before .before .before .before .store .ensures .1) (c .before .before .before .before .before .close-on .ensures))
 
 pub close-spec : {M : Type 1} → statement M
-close-spec = tie.close (tie.spec refusal-on-requires close-on-requires same-length returns returns-2)
+close-spec =
+    tie.close
+    (tie.spec
+    slice-aggregate-store
+    store-requires
+    slice-aggregate-close-on
+    close-on-requires
+    slice-aggregate-load
+    load-requires
+    same-length
+    returns)

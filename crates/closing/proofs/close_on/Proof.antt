@@ -1,134 +1,125 @@
--- `closing::close_on` meets its contract: the record and the output are those of the rules.
-use lib.ListN.{length-map}
-use mathlib.Core.Path.{_≡_, _∙_}
-use Rattle.record.specs.Shape.{Shape}
-use Rattle.record.specs.Stored.{recordFrom}
-use Rattle.bank.specs.DrawingLaws.{bank-falls, wants-fall}
-use Rattle.closing.specs.Month.{Month, monthIn, monthMade, steps-are}
-use Rattle.closing.specs.Output.{monthWritten}
-use Rattle.closing.specs.Totals.{RecordRoom, recordAfterClosing}
-use Rattle.closing.specs.Accepted.{generators-few, consumers-few, gone-few, output-size, creditable, drawable, record-room, record-after, output-after}
-use Prim.Native.Nat.{ℕ}
-use mathlib.Core.List.{List}
-use Rattle.record.specs.declared.Agreed.{Agreed}
-use Rattle.record.specs.declared.Consumers.{Consumers}
-use Rattle.record.specs.declared.Generators.{Generators}
-use Rattle.record.specs.declared.Record.{Record}
-use Rattle.record.specs.declared.Terms.{Terms}
+-- `closing::close_on` meets its contract: the parts that are read make up the record, and the parts that are stored what becomes of it.
+use mathlib.Core.Path.{_∙_, sym}
+use native.Mathlib.Omega.{arith}
 use borrow.Author.Needs.{needs}
+use Rattle.record.specs.CalledLaws.{number-same}
+use Rattle.layout_rules.specs.OnBytes.{recordIn}
+use Rattle.layout_rules.specs.OnBytesLaws.{on-refused}
+use Rattle.layout_rules.specs.PartsLaws.{pairs-size, parts-read, totals-accepted}
+use Rattle.bank.specs.Closing.{closingRule}
 use Rattle.closing.proofs.close_on.Statement.{statement}
 use Rattle.closing.proofs.close_on.Tie as tie
 
--- the record that the parts make up
-abbrev whole : tie.Start → Record
-whole c = let a = c .args in recordFrom (a .terms) (a .counts) (a .agreed) (a .link .now) (a .loss .now) (a .kw .now) (a .rank .now) (a .generators) (a .consumers)
+refusal-on-requires : tie.Need-refusal-on-requires
+refusal-on-requires c κs = c .before .before .before .pre
 
-credit-requires : tie.Need-credit-requires
-credit-requires c κs = creditable (whole (c .before .before .before .before)) _ (c .before .before .before .before .pre .1)
+load-terms-requires : tie.Need-load-terms-requires
+load-terms-requires c κs = c .before .before .before .before .before .before .pre
 
-draw-all-requires : tie.Need-draw-all-requires
-draw-all-requires c κs = drawable (whole (c .before .before .before .before .before .before .before)) _ (c .before .before .before .before .before .before .before .pre .1)
+load-counts-requires : tie.Need-load-counts-requires
+load-counts-requires c κs = c .before .before .before .before .before .before .before .before .pre
 
-cycle-ends-requires : tie.Need-cycle-ends-requires
-cycle-ends-requires c κs = gone-few (whole (c .before .before .before .before .before .before .before .before .before .before)) _ (c .before .before .before .before .before .before .before .before .before .before .pre .1)
+load-agreed-requires : tie.Need-load-agreed-requires
+load-agreed-requires c κs = c .before .before .before .before .before .before .before .before .before .before .pre
 
-lapse-requires : tie.Need-lapse-requires
-lapse-requires c κs = search needs
+load-pairs-requires : tie.Need-load-pairs-requires
+load-pairs-requires c κs = (c .before .before .before .before .before .before .before .before .before .before .before .before .pre, omega arith)
 
--- what the steps gave
-abbrev month : tie.After-lapse → Month
-month c = monthMade (c .before .before .before .before .before .before .before .credit .result) (c .before .before .before .before .draw-all .result) (c .lapse .result) (whole (c .before .before .before .before .before .before .before .before .before .before .before .before) .consumers .outstanding)
+load-pairs-requires-2 : tie.Need-load-pairs-requires-2
+load-pairs-requires-2 c κs = (c .before .before .before .before .before .before .before .before .before .before .before .before .before .before .pre, omega arith)
 
-month-so : (c : tie.After-lapse) → month c ≡ monthIn (whole (c .before .before .before .before .before .before .before .before .before .before .before .before))
-month-so c = let a = c .before .before .before .before .before .before .before .before .before .before .before .before .args in steps-are (a .terms) (a .counts) (a .link .now) (a .rank .now) (a .generators .bank) (a .generators .pending) (a .consumers .outstanding) (c .before .before .before .before .before .before .before .credit .ensures) (c .before .before .before .before .draw-all .ensures) (c .before .cycle-ends .ensures) (c .lapse .ensures)
+load-pairs-requires-3 : tie.Need-load-pairs-requires-3
+load-pairs-requires-3 c κs = (c .before .before .before .before .before .before .before .before .before .before .before .before .before .before .before .before .pre, omega arith)
 
-room : (c : tie.After-lapse) → RecordRoom (whole (c .before .before .before .before .before .before .before .before .before .before .before .before)) (month c)
-room c = record-room _ _ (c .before .before .before .before .before .before .before .before .before .before .before .before .pre .1) _ (month-so c)
+load-pairs-requires-4 : tie.Need-load-pairs-requires-4
+load-pairs-requires-4 c κs = (c .before .before .before .before .before .before .before .before .before .before .before .before .before .before .before .before .before .before .pre, omega arith)
 
-write-lists-requires : tie.Need-write-lists-requires
-write-lists-requires c κs = let z = c .before .before .before .before .before .before .before .before .before .before .before .before .before .before .before .before .before .before .pre .1 in record { size = output-size _ _ z; rows = generators-few _ _ z; columns = consumers-few _ _ z }
+load-generators-requires : tie.Need-load-generators-requires
+load-generators-requires c κs = c .before .before .before .before .before .before .before .before .before .before .before .before .before .before .before .before .before .before .before .before .pre
 
-months-gone-requires : tie.Need-months-gone-requires
-months-gone-requires c κs = gone-few (whole (c .before .before .before .before .before .before .before .before .before .before .before .before .before .before .before .before .before .before .before .before .before .before .before)) _ (c .before .before .before .before .before .before .before .before .before .before .before .before .before .before .before .before .before .before .before .before .before .before .before .pre .1)
+load-consumers-requires : tie.Need-load-consumers-requires
+load-consumers-requires c κs = c .before .before .before .before .before .before .before .before .before .before .before .before .before .before .before .before .before .before .before .before .before .before .pre
 
-less8-requires : tie.Need-less8-requires
-less8-requires c κs = bank-falls _ _ _ (c .before .before .before .before .before .before .before .before .before .before .before .before .before .before .before .before .draw-all .ensures)
+close-parts-requires : tie.Need-close-parts-requires
+close-parts-requires c κs =
+    let con = c .before .before .before .before .before in
+    let gen = con .before .before in
+    let rank = gen .before .before in
+    let kw = rank .before .before in
+    let loss = kw .before .before in
+    let link = loss .before .before in
+    let agreed = link .before .before in
+    let counts = agreed .before .before in
+    let terms = counts .before .before in
+    let passed = terms .before .before in
+    let read =
+    parts-read _ (terms .load-terms .ensures) (counts .load-counts .ensures) (agreed .load-agreed .ensures)
+    (link .load-pairs .ensures) (loss .load-pairs2 .ensures) (kw .load-pairs3 .ensures) (rank .load-pairs4 .ensures)
+    (gen .load-generators .ensures) (con .load-consumers .ensures) in
+    let accepted = sym (number-same _ (sym read) (passed .before .refusal-on .ensures)) ∙ passed .if1 .taken in (
+      record {
+        links = record { link = pairs-size _ 31 (omega arith) (link .load-pairs .ensures); loss = pairs-size _ 159 (omega arith) (loss .load-pairs2 .ensures) };
+        schedule = record { kw = pairs-size _ 287 (omega arith) (kw .load-pairs3 .ensures); rank = pairs-size _ 415 (omega arith) (rank .load-pairs4 .ensures) };
+      },
+      accepted,
+    )
 
-generators-after-requires : tie.Need-generators-after-requires
-generators-after-requires c κs = rw (c .less8 .ensures) (room (c .before .before .before .before .before .before .before .before .before .before .before .before .before) .generators-room)
-
-less16-requires : tie.Need-less16-requires
-less16-requires c κs = wants-fall _ _ _ (c .before .before .before .before .before .before .before .before .before .before .before .before .before .before .before .before .before .before .draw-all .ensures)
-
-consumers-after-requires : tie.Need-consumers-after-requires
-consumers-after-requires c κs = rw (c .less16 .ensures) (room (c .before .before .before .before .before .before .before .before .before .before .before .before .before .before .before) .consumers-room)
+store-totals-requires : tie.Need-store-totals-requires
+store-totals-requires c κs = c .before .before .before .before .before .before .before .before .before .before .before .before .before .before .before .before .before .before .before .before .before .before .before .before .before .before .before .before .before .before .before .before .before .before .before .pre
 
 same-length : tie.Need-same-length
 same-length c = search needs
 
--- a struct by value has the lists of its type; of those that are lent the call says so
-shape : (c : tie.Start) → Shape (whole c)
-shape c =
-    let agreed = c .good .1 .1 .0 .1 .1 in
-    let totals = c .good .1 .1 .1 .1 .1 .1 .1 in
-    let generators = totals .0 .1 .1 in
-    let consumers = totals .1 .0 .1 .1 in
-    record {
-      agreed = record { kind = simp length-map at (agreed .0 .1 .0 .1); installed = simp length-map at (agreed .1 .0 .1 .0 .1); contracted = simp length-map at (agreed .1 .1 .0 .1 .0 .1) };
-      links = c .pre .0 .links;
-      schedule = c .pre .0 .schedule;
-      generators =
-          record {
-            injected = simp length-map at (generators .0 .1 .0 .1);
-            unaccounted = simp length-map at (generators .1 .0 .1 .0 .1);
-            lost = simp length-map at (generators .1 .1 .0 .1 .0 .1);
-            setoff = simp length-map at (generators .1 .1 .1 .0 .1 .0 .1);
-            inadvertent = simp length-map at (generators .1 .1 .1 .1 .0 .1 .0 .1);
-            charge = simp length-map at (generators .1 .1 .1 .1 .1 .0 .1 .0 .1);
-            drawn = simp length-map at (generators .1 .1 .1 .1 .1 .1 .0 .1 .0 .1);
-            lapsed = simp length-map at (generators .1 .1 .1 .1 .1 .1 .1 .0 .1 .0 .1);
-            bank = simp length-map at (generators .1 .1 .1 .1 .1 .1 .1 .1 .0 .1 .0 .1);
-            pending = simp length-map at (generators .1 .1 .1 .1 .1 .1 .1 .1 .1 .0 .1 .0 .1);
-          };
-      consumers =
-          record {
-            metered = simp length-map at (consumers .0 .1 .0 .1);
-            setoff = simp length-map at (consumers .1 .0 .1 .0 .1);
-            shortfall = simp length-map at (consumers .1 .1 .0 .1 .0 .1);
-            drawn = simp length-map at (consumers .1 .1 .1 .0 .1 .0 .1);
-            supplied = simp length-map at (consumers .1 .1 .1 .1 .0 .1 .0 .1);
-            outstanding = simp length-map at (consumers .1 .1 .1 .1 .1 .0 .1 .0 .1);
-          };
-    }
-
--- the record that the totals make up
-same-parts : (terms : Terms) (agreed : Agreed) (link loss kw rank : List ℕ) {n n′ blocks : ℕ} {g g′ : Generators} {o o′ : Consumers} → n ≡ n′ → g ≡ g′ → o ≡ o′ →
-    recordFrom terms (record { gone = n; blocks = blocks; month = 0 }) agreed link loss kw rank g o ≡ recordFrom terms (record { gone = n′; blocks = blocks; month = 0 }) agreed link loss kw rank g′ o′
-same-parts terms agreed link loss kw rank {blocks = blocks} n g o = λ i. recordFrom terms (record { gone = n i; blocks = blocks; month = 0 }) agreed link loss kw rank (g i) (o i)
+same-length-2 : tie.Need-same-length-2
+same-length-2 c = search needs
 
 returns : tie.Need-returns
-unfolding monthWritten recordAfterClosing
+unfolding closingRule
 returns c =
-    let s = c .before .before .before .before .before .before .before .before .before .before .before .before .before .before .before .before .before .before .before .before .before .before .before .before .before .before .before .before in
-    let x = month-so (c .before .before .before .before .before .before .before .before .before .before .before .before .before .before .before .before) in
-    let gone = c .before .before .before .before .months-gone .ensures in
-    let generators = rw (c .before .before .before .less8 .ensures) at (c .before .before .generators-after .ensures) in
-    let consumers = rw (c .before .less16 .ensures) at (c .consumers-after .ensures) in
-    record { record-is = same-parts _ _ _ _ _ _ gone generators consumers ∙ record-after _ _ (s .pre .1) _ x (shape s); output-is = c .before .before .before .before .before .before .before .before .before .write-lists .ensures ∙ output-after _ _ (s .pre .1) _ x }
+    let entered = c .before .before .before .before .before .before .before .before .before in
+    let con = entered .before .before .before .before .before .before in
+    let gen = con .before .before in
+    let rank = gen .before .before in
+    let kw = rank .before .before in
+    let loss = kw .before .before in
+    let link = loss .before .before in
+    let agreed = link .before .before in
+    let counts = agreed .before .before in
+    let terms = counts .before .before in
+    let passed = terms .before .before in
+    let read =
+    parts-read _ (terms .load-terms .ensures) (counts .load-counts .ensures) (agreed .load-agreed .ensures)
+    (link .load-pairs .ensures) (loss .load-pairs2 .ensures) (kw .load-pairs3 .ensures) (rank .load-pairs4 .ensures)
+    (gen .load-generators .ensures) (con .load-consumers .ensures) in
+    let accepted = sym (number-same _ (sym read) (passed .before .refusal-on .ensures)) ∙ passed .if1 .taken in
+    let closed = entered .close-parts .ensures in
+    totals-accepted _ read _ _ _ accepted (closed .record-is) (closed .output-is) (c .before .before .store-totals .ensures)
+
+same-length-3 : tie.Need-same-length-3
+same-length-3 c = search needs
+
+returns-2 : tie.Need-returns-2
+unfolding recordIn
+returns-2 c = on-refused _ _ _ (c .before .refusal-on .ensures) (c .if1 .left)
 
 pub close-on-spec : {M : Type 1} → statement M
 close-on-spec =
     tie.close
     (tie.spec
-    credit-requires
-    draw-all-requires
-    cycle-ends-requires
-    lapse-requires
-    write-lists-requires
-    months-gone-requires
-    less8-requires
-    generators-after-requires
-    less16-requires
-    consumers-after-requires
+    refusal-on-requires
+    load-terms-requires
+    load-counts-requires
+    load-agreed-requires
+    load-pairs-requires
+    load-pairs-requires-2
+    load-pairs-requires-3
+    load-pairs-requires-4
+    load-generators-requires
+    load-consumers-requires
+    close-parts-requires
+    store-totals-requires
     same-length
-    returns)
+    same-length-2
+    returns
+    same-length-3
+    returns-2)

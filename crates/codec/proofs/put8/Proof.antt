@@ -3,7 +3,7 @@ use native.Mathlib.Omega.{arith}
 use lib.ListN.{length-set}
 use borrow.Author.Needs.{needs}
 use Rattle.codec.specs.Bytes.{bytes}
-use Rattle.codec.specs.Put.{put-one, stores}
+use Rattle.codec.specs.Put.{stores}
 use Rattle.codec.proofs.put8.Statement.{statement}
 use Rattle.codec.proofs.put8.Tie as tie
 
@@ -84,7 +84,7 @@ same-length c = simp length-set
 
 returns : tie.Need-returns
 unfolding bytes
-returns c = rw stores (put-one 8 (c .args .at) (c .args .w) (c .args .s .now) (c .pre))
+returns c = rw stores
 
 pub put8-spec : {M : Type 1} → statement M
 put8-spec =

@@ -6,7 +6,7 @@ use native.Mathlib.Omega.{arith}
 use lib.ListN.{length, take}
 use lib.Seq.{take-all}
 use borrow.Author.Needs.{needs}
-use Rattle.codec.specs.Put.{Put, put-none, put-more}
+use Rattle.codec.specs.Put.{Put, put-none, put-one, put-more}
 use Rattle.codec.proofs.put8s.Statement.{statement}
 use Rattle.codec.proofs.put8s.Tie as tie
 
@@ -42,7 +42,7 @@ loop-again c =
     let call = c .before .before in
     let at = call .before .before .before .before in
     let start = at .before .before .before in
-    (omega arith, (call .put8 .kept .1 .0 ∙ at .loop .inv .1 .0, put-more (start .args .ws .now) (at .loop .i) (omega arith) (at .loop .inv .1 .1) (call .put8 .ensures)))
+    (omega arith, (call .put8 .kept .1 .0 ∙ at .loop .inv .1 .0, put-more (start .args .ws .now) (at .loop .i) (omega arith) (at .loop .inv .1 .1) (rw (call .put8 .ensures) (put-one 8 _ _ _ (omega arith) (at .before .before .shared-slice-known .given (at .loop .i) .fits)))))
 
 same-length : tie.Need-same-length Inv-loop μ-loop
 same-length c = search needs

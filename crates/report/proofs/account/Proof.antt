@@ -1,6 +1,6 @@
 -- `report::account` meets its contract, by the number of the month's calls. Assumes nothing.
 use borrow.Author.Needs.{needs}
-use Rattle.report.specs.Entering.{shows-refusal, shows-equation}
+use Rattle.report.specs.AccountLaws.{shows-refusal, shows-equation}
 use Rattle.report.proofs.account.Statement.{statement}
 use Rattle.report.proofs.account.Tie as tie
 

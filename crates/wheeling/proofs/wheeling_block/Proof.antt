@@ -1,8 +1,8 @@
 -- `wheeling::wheeling_block` meets its contract: block on the record and the numbers that the bytes hold.
 use borrow.Author.Needs.{needs}
 use borrow.Rule.Slice.PartMut.{mid-len}
-use Rattle.wheeling.specs.ReadingLaws.{lent-alike, room-alike, room-fits}
-use Rattle.wheeling.specs.WheelingLaws.{block-on-bytes, on-other}
+use Rattle.wheeling_rules.specs.ReadingLaws.{lent-alike, room-alike, room-fits}
+use Rattle.wheeling_rules.specs.WheelingLaws.{block-on-bytes, on-other}
 use Rattle.wheeling.proofs.wheeling_block.Statement.{statement}
 use Rattle.wheeling.proofs.wheeling_block.Tie as tie
 

@@ -1,8 +1,8 @@
 -- `wheeling::wheeling_close` meets its contract: closing on the record and the numbers that the bytes hold.
 use borrow.Author.Needs.{needs}
 use borrow.Rule.Slice.PartMut.{mid-len}
-use Rattle.wheeling.specs.ReadingLaws.{room-alike, room-fits}
-use Rattle.wheeling.specs.WheelingLaws.{closing-on-bytes, on-other}
+use Rattle.wheeling_rules.specs.ReadingLaws.{room-alike, room-fits}
+use Rattle.wheeling_rules.specs.WheelingLaws.{closing-on-bytes, on-other}
 use Rattle.wheeling.proofs.wheeling_close.Statement.{statement}
 use Rattle.wheeling.proofs.wheeling_close.Tie as tie
 

@@ -1,7 +1,7 @@
 -- `wheeling::wheeling_open` meets its contract: opening on the numbers that the bytes hold.
 use borrow.Author.Needs.{needs}
-use Rattle.wheeling.specs.ReadingLaws.{lent-alike}
-use Rattle.wheeling.specs.WheelingLaws.{opening-on-bytes, on-other}
+use Rattle.wheeling_rules.specs.ReadingLaws.{lent-alike}
+use Rattle.wheeling_rules.specs.WheelingLaws.{opening-on-bytes, on-other}
 use Rattle.wheeling.proofs.wheeling_open.Statement.{statement}
 use Rattle.wheeling.proofs.wheeling_open.Tie as tie
 

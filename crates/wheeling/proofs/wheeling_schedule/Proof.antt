@@ -1,7 +1,11 @@
 -- `wheeling::wheeling_schedule` meets its contract: schedule on the record and the numbers that the bytes hold.
+use mathlib.Core.Path.{sym, ap, _∙_}
 use borrow.Author.Needs.{needs}
-use Rattle.wheeling.specs.ReadingLaws.{lent-alike}
-use Rattle.wheeling.specs.WheelingLaws.{called-in, schedule-on-bytes, on-other}
+use Rattle.record.specs.Sound.{sound}
+use Rattle.record.specs.Stored.{figures}
+use Rattle.record.specs.declared.Record.{Record}
+use Rattle.wheeling_rules.specs.ReadingLaws.{lent-alike}
+use Rattle.wheeling_rules.specs.WheelingLaws.{called-in, schedule-on-bytes, on-other}
 use Rattle.wheeling.proofs.wheeling_schedule.Statement.{statement}
 use Rattle.wheeling.proofs.wheeling_schedule.Tie as tie
 
@@ -17,32 +21,35 @@ slice-aggregate-read-input-2 c = search needs
 read-input-requires-2 : tie.Need-read-input-requires-2
 read-input-requires-2 c κs = search needs
 
+is-sound-requires : tie.Need-is-sound-requires
+is-sound-requires c κs = c .before .before .before .before .before .before .before .if1 .taken
+
 load-requires : tie.Need-load-requires
-load-requires c κs = search needs
+load-requires c κs = c .before .before .before .before .before .before .before .before .before .if1 .taken
 
-sub-schedule : tie.Need-sub-schedule
-sub-schedule c = search needs
+sub-schedule-on : tie.Need-sub-schedule-on
+sub-schedule-on c = search needs
 
-part-schedule-start : tie.Need-part-schedule-start
-part-schedule-start c = search needs
+part-schedule-on-start : tie.Need-part-schedule-on-start
+part-schedule-on-start c = search needs
 
-part-schedule-end : tie.Need-part-schedule-end
-part-schedule-end c = search needs
+part-schedule-on-end : tie.Need-part-schedule-on-end
+part-schedule-on-end c = search needs
 
-sub-schedule-2 : tie.Need-sub-schedule-2
-sub-schedule-2 c = search needs
+sub-schedule-on-2 : tie.Need-sub-schedule-on-2
+sub-schedule-on-2 c = search needs
 
-part-schedule-start-2 : tie.Need-part-schedule-start-2
-part-schedule-start-2 c = search needs
+part-schedule-on-start-2 : tie.Need-part-schedule-on-start-2
+part-schedule-on-start-2 c = search needs
 
-part-schedule-end-2 : tie.Need-part-schedule-end-2
-part-schedule-end-2 c = search needs
+part-schedule-on-end-2 : tie.Need-part-schedule-on-end-2
+part-schedule-on-end-2 c = search needs
 
-schedule-requires : tie.Need-schedule-requires
-schedule-requires c κs = search needs
+schedule-on-requires : tie.Need-schedule-on-requires
+schedule-on-requires c κs = c .before .before .before .before .before .before .is-sound .ensures ∙ ap (λ (r : Record). sound (figures r)) (sym (c .before .before .before .before .load .ensures))
 
 keep-requires : tie.Need-keep-requires
-keep-requires c κs = c .before .before .before .before .before .before .before .before .before .before .before .before .before .before .if1 .taken
+keep-requires c κs = c .before .before .before .before .before .before .before .before .before .before .before .before .before .before .before .before .if1 .taken
 
 same-length : tie.Need-same-length
 same-length c = search needs
@@ -52,11 +59,11 @@ returns c =
     let kept = c .before .before in
     let called = kept .before .before in
     let loaded = called .before .before .before .before .before in
-    let second = loaded .before .before .before in
+    let second = loaded .before .before .before .before .before in
     let first = second .before .before .before in
     let here = first .before .before in
     schedule-on-bytes _ _ (here .if1 .taken) (lent-alike (first .read-input .ensures)) (lent-alike (second .read-input2 .ensures))
-    (called-in _ (loaded .load .ensures) (called .schedule .ensures)) (kept .keep .ensures)
+    (called-in _ (loaded .load .ensures) (called .schedule-on .ensures)) (kept .keep .ensures)
 
 returns-2 : tie.Need-returns-2
 returns-2 c = on-other (c .if1 .left)
@@ -69,14 +76,15 @@ wheeling-schedule-spec =
     read-input-requires
     slice-aggregate-read-input-2
     read-input-requires-2
+    is-sound-requires
     load-requires
-    sub-schedule
-    part-schedule-start
-    part-schedule-end
-    sub-schedule-2
-    part-schedule-start-2
-    part-schedule-end-2
-    schedule-requires
+    sub-schedule-on
+    part-schedule-on-start
+    part-schedule-on-end
+    sub-schedule-on-2
+    part-schedule-on-start-2
+    part-schedule-on-end-2
+    schedule-on-requires
     keep-requires
     same-length
     returns

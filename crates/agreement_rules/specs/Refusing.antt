@@ -1,0 +1,58 @@
+-- The refusals of opening and schedule in the parts that the code tests. Assumes nothing.
+use Prim.Native.Nat.{ℕ, _+_, _*_, _≤_, min}
+use mathlib.Core.Path.{_≡_}
+use mathlib.Core.Bool.{Bool, _&&_, not}
+use mathlib.Core.List.{List, [], _∷_}
+use lib.Dec.{eqb, leb, ltb}
+use lib.ListN.{length, getD}
+use Rattle.lists.specs.Sums.{sum}
+use Rattle.lists.specs.Tests.{some, within}
+use Rattle.lists.specs.Pairs.{place, cell}
+use Rattle.lists.specs.Refusals.{firstOf}
+use Rattle.energy.specs.Limits.{mostGenerators, mostConsumers, mostRate, mostCycle, mostRank}
+use Rattle.record.specs.declared.Agreed.{Agreed}
+use Rattle.agreement_rules.specs.Opening.{Opening}
+
+-- ---- opening
+
+abbrev pub asked : ℕ → ℕ → ℕ → ℕ → ℕ → List ℕ → List ℕ → Opening
+asked G C rate cycle gone generators pairs = record { G = G; C = C; rate = rate; cycle = cycle; gone = gone; generators = generators; pairs = pairs }
+
+-- the counts are in range and the lists have the lengths that belong to them
+unfoldable pub sizesFit : ℕ → ℕ → List ℕ → List ℕ → Bool
+sizesFit G C generators pairs =
+    within 1 mostGenerators G && within 1 mostConsumers C && eqb (length generators) (3 * G) && eqb (length pairs) (2 * (G * C))
+
+unfoldable pub termsFit : ℕ → ℕ → ℕ → Bool
+termsFit rate cycle gone = leb rate mostRate && within 1 mostCycle cycle && ltb gone cycle
+
+-- a number outside a range, among count numbers from a place on
+unfoldable pub outside : List ℕ → ℕ → ℕ → ℕ → ℕ → Bool
+outside xs from count low high = some count (λ k. not (within low high (getD xs (from + k) 0)))
+
+-- number k of a generator's three is over a limit
+unfoldable pub columnOver : List ℕ → ℕ → ℕ → ℕ → Bool
+columnOver xs n k most = some n (λ g. ltb most (cell n 3 xs g k))
+
+pub record Fitting (G C : ℕ) (generators pairs : List ℕ) : Type 0 where
+  pub G-high : G ≤ mostGenerators
+  pub C-high : C ≤ mostConsumers
+  pub generators-size : length generators ≡ 3 * G
+  pub pairs-size : length pairs ≡ 2 * (G * C)
+
+-- ---- schedule, on the parts of the record that it is tested by
+
+unfoldable pub offLink : List ℕ → ℕ → ℕ → List ℕ → Bool
+offLink link n m kws = some n (λ g. some m (λ c. eqb (cell 8 16 link g c) 0 && ltb 0 (cell n m kws g c)))
+
+unfoldable pub overCapacity : Agreed → ℕ → ℕ → List ℕ → Bool
+overCapacity a n m kws = some n (λ g. ltb (min (place 8 (a .installed) g) (place 8 (a .contracted) g)) (sum m (cell n m kws g)))
+
+unfoldable pub refusalOn : Agreed → List ℕ → ℕ → ℕ → List ℕ → List ℕ → ℕ
+refusalOn a link n m kws ranks =
+    firstOf
+    ((2, not (eqb (length kws) (n * m) && eqb (length ranks) (n * m))) ∷
+    (7, offLink link n m kws) ∷
+    (8, overCapacity a n m kws) ∷
+    (9, some n (λ g. some m (λ c. not (within 1 mostRank (cell n m ranks g c))))) ∷
+    [])

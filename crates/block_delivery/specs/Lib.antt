@@ -1,0 +1,5 @@
+pub mod Lent
+pub mod LentLaws
+pub mod Rows
+pub mod RowLaws
+pub mod Filling

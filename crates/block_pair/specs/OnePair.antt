@@ -1,0 +1,25 @@
+-- Rules 3 and 4 for one pair, by its generator's kind, its scheduled kW, its part and its loss rate. Assumes nothing.
+use Prim.Native.Nat.{ℕ, _-_, _≤_}
+use mathlib.Core.Bool.{not}
+use mathlib.Core.Path.{_≡_}
+use lib.Dec.{eqb}
+use Rattle.lists.specs.Choice.{if_then_else_}
+use Rattle.energy.specs.Energy.{quarterHour, lossOn}
+use Rattle.energy.specs.Limits.{mostCapacity, mostLoss, mostReading}
+use Rattle.block_pair.specs.declared.Pair.{Pair}
+
+-- Rule 4 less what is delivered, by the generator's kind and the pair's scheduled energy and loss
+unfoldable pub gapOf : ℕ → ℕ → ℕ → ℕ → ℕ
+gapOf kind scheduled rate delivered = if not (eqb kind 0) then 0 else scheduled - lossOn scheduled rate - delivered
+
+-- what the code asks; of a scheduled pair no more is delivered than is scheduled at exit
+pub record PairReady (kind kw part rate : ℕ) : Type 0 where
+  pub kw-high : kw ≤ mostCapacity
+  pub part-high : part ≤ mostReading
+  pub rate-high : rate ≤ mostLoss
+  pub exact : kind ≡ 0 → part - lossOn part rate ≤ quarterHour kw - lossOn (quarterHour kw) rate
+
+pub record PairDone (kind kw part rate : ℕ) (r : Pair) : Type 0 where
+  pub lost-is : r .lost ≡ lossOn part rate
+  pub arrived-is : r .arrived ≡ part - lossOn part rate
+  pub missing-is : r .missing ≡ gapOf kind (quarterHour kw) rate (part - lossOn part rate)

@@ -1,0 +1,26 @@
+-- What the record's bytes and the exit readings say to the settling of a block. Assumes nothing.
+use Prim.Native.Nat.{ℕ, _≤_}
+use mathlib.Core.Path.{_≡_}
+use mathlib.Core.List.{List}
+use lib.ListN.{length}
+use Rattle.lists.specs.Pairs.{place}
+use Rattle.energy.specs.Limits.{mostRank, mostGenerators, mostConsumers}
+use Rattle.codec.specs.Bytes.{decode}
+use Rattle.delivery.specs.Plan.{Plan}
+use Rattle.record.specs.Words.{recordOf}
+use Rattle.record.specs.Stored.{planOf}
+
+abbrev pub planIn : List ℕ → Plan
+planIn s = planOf (recordOf (decode 8 719 s))
+
+abbrev pub exitsIn : List ℕ → List ℕ → ℕ → ℕ
+exitsIn s exit = place (planIn s .C) exit
+
+-- the bytes of a record of n generators and m consumers with its ranks in bounds
+pub record Ranked (s : List ℕ) (n m : ℕ) : Type 0 where
+  pub whole : length s ≡ 5752
+  pub n-is : n ≡ planIn s .G
+  pub m-is : m ≡ planIn s .C
+  pub n-high : n ≤ mostGenerators
+  pub m-high : m ≤ mostConsumers
+  pub ranks : (g c : ℕ) → planIn s .rank g c ≤ mostRank

@@ -1,0 +1,37 @@
+-- The ranks of one consumer, read from the record's bytes. Assumes nothing.
+use Prim.Native.Nat.{ℕ, _+_, _*_, _≤_, _<_}
+use mathlib.Core.Path.{_≡_, ap, sym, _∙_}
+use mathlib.Core.List.{List}
+use native.Mathlib.Omega.{arith}
+use lib.ListN.{getD}
+use Rattle.lists.specs.Tables.{table}
+use Rattle.lists.specs.Pairs.{place}
+use Rattle.lists.specs.PairsLaws.{cell-in}
+use Rattle.codec.specs.Bytes.{decode}
+use Rattle.order.specs.Order.{inOrder}
+use Rattle.order.specs.Arrays.{upto, column-read}
+use Rattle.delivery.specs.Plan.{order}
+use Rattle.record.specs.Words.{recordOf}
+use Rattle.record.specs.Stored.{planOf}
+use Rattle.layout_rules.specs.Places.{rank-place}
+use Rattle.block_settlement.specs.Bytes.{planIn, Ranked}
+
+pub rank-at : (s : List ℕ) (g c : ℕ) → g < 8 → c < 16 → getD (decode 8 719 s) (415 + c + g * 16) 0 ≡ planIn s .rank g c
+unfolding planOf
+rank-at s g c h k =
+    let e : 415 + (g * 16 + c) ≡ 415 + c + g * 16 = omega arith in
+    sym
+    (cell-in 8 16 (recordOf (decode 8 719 s) .schedule .rank) g c h k ∙ rank-place (decode 8 719 s) (g * 16 + c) (omega arith) ∙
+    ap (λ (i : ℕ). getD (decode 8 719 s) i 0) e)
+
+module _ {s : List ℕ} {n m : ℕ} (h : Ranked s n m) (c : ℕ) {ranks : List ℕ} (e : ranks ≡ table 8 (λ g. planIn s .rank g c)) where
+  ranks-are : place 8 ranks ≡ (λ g. planIn s .rank g c)
+  unfolding planOf
+  ranks-are = column-read (recordOf (decode 8 719 s) .schedule .rank) c e
+
+  pub ranks-fit : (g : ℕ) → place 8 ranks g < 4_294_967_296
+  ranks-fit g = rw ranks-are (omega (arith, h .ranks g c))
+
+  pub turns-are : (a : List ℕ) → upto a n ≡ inOrder (place 8 ranks) n → upto a n ≡ order (planIn s) c
+  unfolding order
+  turns-are a q = q ∙ ap (λ (f : ℕ → ℕ). inOrder f n) ranks-are ∙ ap (λ (k : ℕ). inOrder (λ g. planIn s .rank g c) k) (h .n-is)

@@ -1,0 +1,107 @@
+// Rules 5 to 7 of a block, consumer by consumer, in the slice of its output.
+ghost use mathlib.Core.Path.{_≡_};
+ghost use Prim.Native.Nat.{ℕ, _+_, _*_, _<_, _≤_};
+ghost use lib.ListN.{length};
+ghost use Rattle.lists.specs.Tables.{table};
+ghost use Rattle.lists.specs.Pairs.{cell};
+ghost use Rattle.delivery.specs.DeliveredIn.{DeliveredIn};
+ghost use Rattle.settlement.specs.Settlement.{blockOutput};
+ghost use Rattle.block_settlement.specs.Bytes.{planIn, exitsIn, Ranked};
+ghost use Rattle.block_settlement.specs.Columns.{ColumnPut};
+ghost use Rattle.block_settlement.specs.SettledTo.{SettledTo, ConsumerPut};
+
+// Column c of a list of n rows of w numbers.
+fn column(list: &[u64], n: usize, w: usize, c: usize) -> [u64; 8]
+    requires { ⌜ (length (now list) ≡ n * w) × ((n ≤ 8) × ((w ≤ 16) × (c < w))) ⌝ }
+    ensures { λ r. ⌜ r ≡ table 8 (λ g. cell n w (now (list .entry)) g c) ⌝ }
+{
+    let mut out = [0u64; 8];
+    let mut g: usize = 0;
+    while g < n {
+        out[g] = list[g * w + c];
+        g += 1;
+    }
+    out
+}
+
+// Puts a number for each of the n rows into column c.
+fn put_column(list: &mut [u64], n: usize, w: usize, c: usize, xs: &[u64; 8])
+    requires { ⌜ (length (now list) ≡ n * w) × ((n ≤ 8) × ((w ≤ 16) × (c < w))) ⌝ }
+    ensures { λ _. ⌜ ColumnPut n w (now (list .entry)) c (now (xs .entry)) n (now (list .exit)) ⌝ }
+{
+    let mut g: usize = 0;
+    while g < n {
+        list[g * w + c] = xs[g];
+        g += 1;
+    }
+}
+
+// The ranks of the generators for consumer c, read where they stand.
+fn ranks_of(s: &[u8], c: usize) -> [u64; 8]
+    requires { ⌜ (length (now s) ≡ 5752) × (c < 16) ⌝ }
+    ensures { λ r. ⌜ r ≡ table 8 (λ g. planIn (now (s .entry)) .rank g c) ⌝ }
+{
+    let from = layout_rules::RANK + c;
+    let mut ranks = [0u64; 8];
+    let mut g: usize = 0;
+    while g < 8 {
+        ranks[g] = loading::number_at(s, from + g * 16);
+        g += 1;
+    }
+    ranks
+}
+
+// Puts the figures of consumer c where the output has them.
+fn put_settled(
+    out: &mut [u64],
+    n: usize,
+    m: usize,
+    c: usize,
+    setoff: &[u64; 8],
+    underdrawn: &[u64; 8],
+    shortfall: &[u64; 8],
+    remainder: u64,
+)
+    requires { ⌜ (length (now out) ≡ 4 * (n * m) + n + m) × ((n ≤ 8) × ((m ≤ 16) × (c < m))) ⌝ }
+    ensures { λ _. ⌜ ConsumerPut n m c (now (setoff .entry)) (now (underdrawn .entry)) (now (shortfall .entry)) remainder (now (out .entry)) (now (out .exit)) ⌝ }
+{
+    let size = n * m;
+    let second = 2 * size;
+    let third = 3 * size;
+    let fourth = 4 * size;
+    put_column(&mut out[size..second], n, m, c, setoff);
+    put_column(&mut out[second..third], n, m, c, underdrawn);
+    put_column(&mut out[third..fourth], n, m, c, shortfall);
+    out[fourth + n + c] = remainder;
+}
+
+// Rules 5 to 7 for consumer c, whose exit reading is `read`.
+fn settle_one(s: &[u8], n: usize, m: usize, c: usize, read: u64, out: &mut [u64])
+    requires { ⌜ Ranked (now s) n m × ((c < m) × (length (now out) ≡ 4 * (n * m) + n + m)) ⌝ }
+    ensures { λ _. ⌜ ((E R : ℕ → ℕ) → read ≡ R c → SettledTo (planIn (now (s .entry))) E R c (now (out .entry)) → SettledTo (planIn (now (s .entry))) E R (c + 1) (now (out .exit))) ⌝ }
+{
+    let ranks = ranks_of(s, c);
+    let turns = order::in_order(ranks, n);
+    let second = 2 * (n * m);
+    let third = 3 * (n * m);
+    let fourth = 4 * (n * m);
+    let mut has = column(&out[second..third], n, m, c);
+    let mut taken = [0u64; 8];
+    let left = order::settle(&turns, n, &mut has, &mut taken, read);
+    let mut gap = column(&out[third..fourth], n, m, c);
+    let mut short = [0u64; 8];
+    let rest = order::settle(&turns, n, &mut gap, &mut short, left);
+    put_settled(out, n, m, c, &taken, &has, &short, rest);
+}
+
+// Rules 5 to 7 of a block, in the slice in which rules 1 to 4 have left what is delivered.
+pub fn settle_all(s: &[u8], n: usize, m: usize, exit: &[u32], out: &mut [u64])
+    requires { ⌜ Ranked (now s) n m × ((length (now exit) ≡ m) × (length (now out) ≡ 4 * (n * m) + n + m)) ⌝ }
+    ensures { λ _. ⌜ ((E : ℕ → ℕ) → DeliveredIn (planIn (now (s .entry))) E (now (out .entry)) → now (out .exit) ≡ blockOutput (planIn (now (s .entry))) E (exitsIn (now (s .entry)) (now (exit .entry)))) ⌝ }
+{
+    let mut c: usize = 0;
+    while c < m {
+        settle_one(s, n, m, c, lists::wide(exit[c]), out);
+        c += 1;
+    }
+}

@@ -1,0 +1,3 @@
+pub mod Raise
+pub mod RaiseLaws
+pub mod AfterLaws

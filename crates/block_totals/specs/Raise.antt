@@ -1,0 +1,97 @@
+-- Rule 8 where the totals stand: which numbers of the record a block raises, and by which sums of its output. Assumes nothing.
+use Prim.Native.Nat.{ℕ, _+_, _*_, _≤_}
+use mathlib.Core.Path.{_≡_}
+use mathlib.Core.List.{List}
+use lib.Dec.{eqb}
+use lib.ListN.{length, getD}
+use Rattle.lists.specs.Choice.{if_then_else_}
+use Rattle.lists.specs.Sums.{sum}
+use Rattle.arrays.specs.Bounds.{mostFigure, Moderate}
+use Rattle.codec.specs.Bytes.{decode}
+use Rattle.settlement.specs.Settlement.{blockOutput}
+use Rattle.record.specs.Book.{Book}
+use Rattle.record.specs.Stored.{figures}
+use Rattle.record.specs.SoundLaws.{Facts}
+use Rattle.record.specs.Words.{recordOf}
+use Rattle.layout_rules.specs.Raised.{raised, from}
+use Rattle.block_rules.specs.Block.{entryOf, exitOf}
+use Rattle.block_rules.specs.BlockLaws.{Enterable}
+
+-- ---- sums of a list of rows of m numbers that stands in xs from place `first` on
+
+abbrev pub rowSum : ℕ → List ℕ → ℕ → ℕ → ℕ
+rowSum m xs first g = sum m (λ c. getD xs (first + (g * m + c)) 0)
+
+abbrev pub columnSum : ℕ → ℕ → List ℕ → ℕ → ℕ → ℕ
+columnSum n m xs first c = sum n (λ g. getD xs (first + (g * m + c)) 0)
+
+-- ---- what a block raises, for n generators and m consumers, by its readings and its output
+
+-- The number that underdrawn energy of generator g raises (10.3): inadvertent energy for kind 0, else what is pending.
+abbrev pub underdrawnPlace : List ℕ → ℕ → ℕ
+underdrawnPlace ws g = if eqb (getD ws (7 + g * 3) 0) 0 then 575 + g else 615 + g
+
+module _ (n m : ℕ) (readings out ws : List ℕ) where
+  -- injected, unaccounted, lost and set off; then underdrawn
+  unfoldable pub fourRaised : List ℕ
+  fourRaised =
+      raised (from 567) n (rowSum m out (n * m))
+      (raised (from 559) n (rowSum m out 0)
+      (raised (from 551) n (λ g. getD out (4 * (n * m) + g) 0)
+      (raised (from 543) n (λ g. getD readings g 0) ws)))
+
+  unfoldable pub generatorsRaised : List ℕ
+  generatorsRaised = raised (underdrawnPlace fourRaised) n (rowSum m out (2 * (n * m))) fourRaised
+
+  -- metered, set off, shortfall and outstanding
+  unfoldable pub consumersRaised : List ℕ
+  consumersRaised =
+      raised (from 703) m (λ c. getD out (4 * (n * m) + n + c) 0)
+      (raised (from 655) m (columnSum n m out (3 * (n * m)))
+      (raised (from 639) m (columnSum n m out (n * m))
+      (raised (from 623) m (λ c. getD readings c 0) ws)))
+
+-- the blocks of the unit and of the month
+unfoldable pub countsRaised : List ℕ → List ℕ
+countsRaised = raised (from 5) 2 (λ i. 1)
+
+-- ---- numbers raised in the record's bytes
+
+-- the bytes s became t: f i was added to the number at place `at i`, for each i below n
+pub record Raised (at : ℕ → ℕ) (n : ℕ) (f : ℕ → ℕ) (s t : List ℕ) : Type 0 where
+  pub is : decode 8 719 t ≡ raised at n f (decode 8 719 s)
+
+-- the numbers from place p on are at most b
+pub record Low (p b : ℕ) (ws : List ℕ) : Type 0 where
+  pub at : (k : ℕ) → p ≤ k → getD ws k 0 ≤ b
+
+-- n numbers of the record from place p on, with none that is more than b there or behind
+pub record Raisable (p n b : ℕ) (s : List ℕ) : Type 0 where
+  pub size : length s ≡ 5752
+  pub placed : p + n ≤ 719
+  pub low : Low p b (decode 8 719 s)
+
+-- such numbers have room for a sum of 16 figures
+abbrev pub mostRaised : ℕ
+mostRaised = 16 * mostFigure
+
+-- lists for n generators and m consumers, of figures of a sound record
+pub record Listed (n m : ℕ) (out : List ℕ) : Type 0 where
+  pub generators-few : n ≤ 8
+  pub consumers-few : m ≤ 16
+  pub size : length out ≡ 4 * (n * m) + n + m
+  pub moderate : Moderate out
+
+-- ---- the call
+
+abbrev pub bookIn : List ℕ → Book
+bookIn s = figures (recordOf (decode 8 719 s))
+
+-- the bytes s hold a sound record, which takes a block of these readings, and the block's lists stand in out
+pub record Settled (s : List ℕ) (n m : ℕ) (entry exit out : List ℕ) : Type 0 where
+  pub size : length s ≡ 5752
+  pub generators : n ≡ bookIn s .plan .G
+  pub consumers : m ≡ bookIn s .plan .C
+  pub sound : Facts (bookIn s)
+  pub enterable : Enterable entry exit (length out) (bookIn s)
+  pub output : out ≡ blockOutput (bookIn s .plan) (entryOf entry exit (bookIn s)) (exitOf entry exit (bookIn s))

@@ -1,0 +1,161 @@
+-- The laws by which the loops that raise numbers of a record are proved. Assumes nothing.
+use Prim.Native.Nat.{ℕ, _+_, _*_, _≤_, _<_}
+use mathlib.Core.Path.{_≡_, refl, sym, ap, _∙_}
+use mathlib.Core.Bool.{Bool, true, false}
+use mathlib.Core.List.{List}
+use native.Mathlib.Omega.{arith}
+use native.Mathlib.Nat.{add-assoc, mul-le-mul-right, suc-mul}
+use borrow.Author.Tests.{eq-eqb, ne-eqb}
+use lib.Dec.{eqb}
+use lib.ListN.{length, getD, set}
+use Rattle.lists.specs.Choice.{if_then_else_}
+use Rattle.lists.specs.Sums.{sum, sum-none, sum-more, sum-cap}
+use Rattle.arrays.specs.Bounds.{mostFigure, Moderate}
+use Rattle.codec.specs.Bytes.{decode}
+use Rattle.codec.specs.BytesLaws.{length-decode}
+use Rattle.layout_rules.specs.Raised.{raised, from, raised-none, raised-more, raised-other, raised-same, raised-nothing, raised-twice, raised-cap}
+use Rattle.block_totals.specs.Raise.{rowSum, columnSum, underdrawnPlace, fourRaised, generatorsRaised, consumersRaised, Raised, mostRaised, Low, Raisable}
+
+module _ {at f : ℕ → ℕ} {s : List ℕ} where
+  pub none-raised : Raised at 0 f s s
+  none-raised = record { is = sym (raised-none at f (decode 8 719 s)) }
+
+  pub one-more : {i v : ℕ} {t u : List ℕ} → Raised at i f s t → v ≡ f i → decode 8 719 u ≡ set (decode 8 719 t) (at i) (getD (decode 8 719 t) (at i) 0 + v) → Raised at (i + 1) f s u
+  one-more {i} r w d = record { is = d ∙ rw (r .is, w) (sym (raised-more at f (decode 8 719 s) i)) }
+
+  pub all-raised : {n i : ℕ} {t : List ℕ} → Raised at i f s t → i ≡ n → Raised at n f s t
+  all-raised {t = t} r e = rw (← e) r
+
+  -- a number at no such place
+  pub not-raised : {i : ℕ} {t : List ℕ} (k : ℕ) → Raised at i f s t → ((j : ℕ) → j < i → k ≡ at j → ⊥) → getD (decode 8 719 t) k 0 ≡ getD (decode 8 719 s) k 0
+  not-raised {i} k r h = ap (λ (ws : List ℕ). getD ws k 0) (r .is) ∙ raised-other at f (decode 8 719 s) i k h
+
+-- of numbers in a row, the next is low still
+pub next-low : {p n b i : ℕ} {f : ℕ → ℕ} {s t : List ℕ} → Raisable p n b s → Raised (from p) i f s t → getD (decode 8 719 t) (p + i) 0 ≤ b
+next-low {p} {i = i} h r = omega (arith, not-raised (p + i) r (λ j l e. omega arith), h .low .at (p + i) (omega arith))
+
+-- numbers that start w places behind those that are raised
+pub next-list : {p n b k : ℕ} {f : ℕ → ℕ} {s t : List ℕ} (w m : ℕ) → k ≤ w → p + w + m ≤ 719 → Raisable p n b s → Raised (from p) k f s t → length t ≡ length s → Raisable (p + w) m b t
+next-list w m l placed h r e =
+    record {
+      size = e ∙ h .size;
+      placed = placed;
+      low = record { at = λ j o. omega (arith, not-raised j r (λ i a x. omega arith), h .low .at j (omega arith)) };
+    }
+
+-- fewer of them, with a looser bound
+pub fewer : {p n b : ℕ} {s : List ℕ} (m c : ℕ) → m ≤ n → b ≤ c → Raisable p n b s → Raisable p m c s
+fewer m c l up h = record { size = h .size; placed = omega (arith, h .placed); low = record { at = λ k o. omega (arith, h .low .at k o) } }
+
+-- ---- rows and columns of a list of rows
+
+pub row-cap : (m first g : ℕ) {xs : List ℕ} → Moderate xs → rowSum m xs first g ≤ m * mostFigure
+row-cap m first g {xs} h = sum-cap m mostFigure (λ c. getD xs (first + (g * m + c)) 0) (λ c l. h .at (first + (g * m + c)))
+
+pub row-within : (n m g : ℕ) → g < n → g * m + m ≤ n * m
+row-within n m g h = omega (arith, mul-le-mul-right m h, suc-mul g m)
+
+module _ (at m first : ℕ) (xs s : List ℕ) where
+  pub no-rows : Raised (from at) m (columnSum 0 m xs first) s s
+  no-rows = record { is = sym (raised-nothing (from at) (columnSum 0 m xs first) (decode 8 719 s) m (λ c l. sum-none (λ g. getD xs (first + (g * m + c)) 0))) }
+
+  pub one-row : (g : ℕ) {t u : List ℕ} → at + m ≤ 719 → Raised (from at) m (columnSum g m xs first) s t →
+      Raised (from at) m (λ c. getD xs (first + g * m + c) 0) t u → Raised (from at) m (columnSum (g + 1) m xs first) s u
+  one-row g b r d =
+      let row : ℕ → ℕ = λ c. getD xs (first + g * m + c) 0 in
+      let ws : List ℕ = decode 8 719 s in
+      record {
+        is =
+            d .is ∙ ap (raised (from at) m row) (r .is) ∙ raised-twice at (columnSum g m xs first) row ws m (omega (arith, length-decode 8 719 s)) ∙
+            raised-same (from at) (λ c. columnSum g m xs first c + row c) (columnSum (g + 1) m xs first) ws m
+            (λ c o. omega (arith, sum-more g (λ h. getD xs (first + (h * m + c)) 0), ap (λ (k : ℕ). getD xs k 0) (add-assoc first (g * m) c)));
+      }
+
+  -- with few rows added there is room for more
+  pub rows-low : (g : ℕ) {t : List ℕ} → Raisable at m mostFigure s → Moderate xs → g ≤ 8 → Raised (from at) m (columnSum g m xs first) s t → length t ≡ 5752 → Raisable at m mostRaised t
+  rows-low g {t} h x few r e =
+      let most : (c : ℕ) → c < m → columnSum g m xs first c ≤ g * mostFigure = λ c l. sum-cap g mostFigure (λ k. getD xs (first + (k * m + c)) 0) (λ k o. x .at (first + (k * m + c))) in
+      let fits : at + m ≤ length (decode 8 719 s) = omega (arith, h .placed, length-decode 8 719 s) in
+      record {
+        size = e;
+        placed = h .placed;
+        low =
+            record {
+              at = λ k l. omega (arith, ap (λ (ws : List ℕ). getD ws k 0) (r .is), raised-cap at m (g * mostFigure) (columnSum g m xs first) (decode 8 719 s) fits most k, h .low .at k l);
+            };
+      }
+
+-- ---- the place by the kind
+
+module _ (ws : List ℕ) (g : ℕ) {kind : ℕ} (e : kind ≡ getD ws (7 + g * 3) 0) where
+  pub inadvertent-place : kind ≡ 0 → underdrawnPlace ws g ≡ 575 + g
+  inadvertent-place z = rw (eq-eqb (getD ws (7 + g * 3) 0) 0 (sym e ∙ z))
+
+  pub pending-place : (kind ≡ 0 → ⊥) → underdrawnPlace ws g ≡ 615 + g
+  pending-place z = rw (ne-eqb (getD ws (7 + g * 3) 0) 0 (λ y. z (e ∙ y)))
+
+-- the places behind the kinds, one for each generator
+abbrev either : Bool → ℕ → ℕ
+either t g = if t then 575 + g else 615 + g
+
+either-low : (t : Bool) (g : ℕ) → 575 ≤ either t g
+either-low true g = omega arith
+either-low false g = omega arith
+
+either-high : (t : Bool) (g : ℕ) → either t g ≤ 615 + g
+either-high true g = omega arith
+either-high false g = omega arith
+
+either-apart : (t u : Bool) (g h : ℕ) → h < g → g < 8 → either t g ≡ either u h → ⊥
+either-apart true true g h l k e = omega arith
+either-apart true false g h l k e = omega arith
+either-apart false true g h l k e = omega arith
+either-apart false false g h l k e = omega arith
+
+pub place-high : (ws : List ℕ) (g : ℕ) → underdrawnPlace ws g ≤ 615 + g
+place-high ws g = either-high (eqb (getD ws (7 + g * 3) 0) 0) g
+
+module _ {b g : ℕ} {f : ℕ → ℕ} {s t : List ℕ} (h : Raisable 575 48 b s) (l : g < 8) (r : Raised (underdrawnPlace (decode 8 719 s)) g f s t) where
+  -- the kinds stay
+  pub place-stays : underdrawnPlace (decode 8 719 t) g ≡ underdrawnPlace (decode 8 719 s) g
+  place-stays = ap (λ (k : ℕ). if eqb k 0 then 575 + g else 615 + g) (not-raised (7 + g * 3) r (λ j o e. omega (arith, either-low (eqb (getD (decode 8 719 s) (7 + j * 3) 0) 0) j)))
+
+  pub place-low : getD (decode 8 719 t) (underdrawnPlace (decode 8 719 s) g) 0 ≤ b
+  place-low =
+      omega (
+        arith,
+        not-raised (underdrawnPlace (decode 8 719 s) g) r (λ j o e. either-apart (eqb (getD (decode 8 719 s) (7 + g * 3) 0) 0) (eqb (getD (decode 8 719 s) (7 + j * 3) 0) 0) g j o l e),
+        h .low .at (underdrawnPlace (decode 8 719 s) g) (either-low (eqb (getD (decode 8 719 s) (7 + g * 3) 0) 0) g),
+      )
+
+-- ---- the totals of generators and of consumers, list by list
+
+module _ (n m : ℕ) (readings out s : List ℕ) where
+  pub generators-all : {t u v w x : List ℕ} → length readings ≡ n →
+      Raised (from 543) (length readings) (λ g. getD readings g 0) s t → Raised (from 551) n (λ g. getD out (4 * (n * m) + g) 0) t u → Raised (from 559) n (rowSum m out 0) u v →
+      Raised (from 567) n (rowSum m out (n * m)) v w → Raised (underdrawnPlace (decode 8 719 w)) n (rowSum m out (2 * (n * m))) w x →
+      decode 8 719 x ≡ generatorsRaised n m readings out (decode 8 719 s)
+  unfolding generatorsRaised fourRaised
+  generators-all e a b c d f = f .is ∙ rw (d .is, c .is, b .is, a .is, e)
+
+  pub consumers-all : {t u v w : List ℕ} → length readings ≡ m →
+      Raised (from 623) (length readings) (λ c. getD readings c 0) s t → Raised (from 639) m (columnSum n m out (n * m)) t u → Raised (from 655) m (columnSum n m out (3 * (n * m))) u v →
+      Raised (from 703) m (λ c. getD out (4 * (n * m) + n + c) 0) v w →
+      decode 8 719 w ≡ consumersRaised n m readings out (decode 8 719 s)
+  unfolding consumersRaised
+  consumers-all e a b c d = d .is ∙ rw (c .is, b .is, a .is, e)
+
+  -- what stands behind the generators' totals
+  pub generators-behind : {b : ℕ} {t : List ℕ} → n ≤ 8 → Raisable 543 80 b s → decode 8 719 t ≡ generatorsRaised n m readings out (decode 8 719 s) → length t ≡ length s → Raisable 623 96 b t
+  unfolding generatorsRaised fourRaised
+  generators-behind few h d e =
+      record {
+        size = e ∙ h .size;
+        placed = omega arith;
+        low = record { at = λ k l. omega (arith, ap (λ (ws : List ℕ). getD ws k 0) d, stays k l, h .low .at k (omega arith)) };
+      }
+    where
+      stays : (k : ℕ) → 623 ≤ k → getD (generatorsRaised n m readings out (decode 8 719 s)) k 0 ≡ getD (decode 8 719 s) k 0
+      stays k l =
+          raised-other _ _ _ n k (λ g o x. omega (arith, place-high (fourRaised n m readings out (decode 8 719 s)) g)) ∙ raised-other (from 567) _ _ n k (λ g o x. omega arith) ∙
+          raised-other (from 559) _ _ n k (λ g o x. omega arith) ∙ raised-other (from 551) _ _ n k (λ g o x. omega arith) ∙ raised-other (from 543) _ _ n k (λ g o x. omega arith)

@@ -1,0 +1,81 @@
+-- A record read from its 719 numbers is stored again as it stands. Assumes nothing.
+use Prim.Native.Nat.{ℕ, zero, suc, _+_, _≤_, _<_}
+use mathlib.Core.Path.{_≡_, refl, sym, ap, _∙_}
+use mathlib.Core.List.{List, [], _∷_}
+use native.Mathlib.Omega.{arith}
+use lib.ListN.{length, getD, drop, length-drop}
+use lib.Seq.{length-take-le}
+use Rattle.lists.specs.Tables.{length-table}
+use Rattle.record.specs.Stored.{planOf, figures, stored}
+use Rattle.record.specs.Shape.{Shape, AgreedShape, LinksShape, ScheduleShape, GeneratorsShape, ConsumersShape, table-place, pairs-cell, generators-kept, consumers-kept}
+use Rattle.record.specs.SoundLaws.{Facts}
+use Rattle.record.specs.Words.{runLengths, total, words, cut, fromRuns, recordOf}
+use Rattle.record.specs.declared.Record.{Record}
+use Rattle.layout_rules.specs.LayoutLaws.{most, words-of-record, words-low}
+
+-- each run has its length
+run-length : (ns ws : List ℕ) → length ws ≡ total ns → (j : ℕ) → j < length ns → length (getD (cut ns ws) j []) ≡ getD ns j 0
+unfolding cut total
+run-length [] ws e j h = absurd (omega arith)
+run-length (n ∷ ns) ws e zero h = length-take-le n ws (omega arith)
+run-length (n ∷ ns) ws e (suc j) h = run-length ns (drop n ws) (omega (arith, length-drop n ws)) j (omega arith)
+
+-- the record of any figures in lists of the right lengths
+pub stored-figures : (r : Record) → Shape r → stored (figures r) ≡ r
+unfolding stored figures planOf
+stored-figures r s =
+    λ i. record {
+      terms = r .terms;
+      counts = r .counts;
+      agreed =
+          record {
+            kind = table-place 8 (r .agreed .kind) (s .agreed .kind) i;
+            installed = table-place 8 (r .agreed .installed) (s .agreed .installed) i;
+            contracted = table-place 8 (r .agreed .contracted) (s .agreed .contracted) i;
+          };
+      links = record { link = pairs-cell (r .links .link) (s .links .link) i; loss = pairs-cell (r .links .loss) (s .links .loss) i };
+      schedule = record { kw = pairs-cell (r .schedule .kw) (s .schedule .kw) i; rank = pairs-cell (r .schedule .rank) (s .schedule .rank) i };
+      generators = generators-kept (r .generators) (s .generators) i;
+      consumers = consumers-kept (r .consumers) (s .consumers) i;
+    }
+
+module _ (ws : List ℕ) (e : length ws ≡ 719) where
+  pub record-shape : Shape (recordOf ws)
+  unfolding recordOf fromRuns runLengths cut total
+  record-shape =
+      let size : (j : ℕ) → j < 22 → length (getD (cut runLengths ws) j []) ≡ getD runLengths j 0 = run-length runLengths ws e in
+      record {
+        agreed = record { kind = length-table 8 _; installed = length-table 8 _; contracted = length-table 8 _ };
+        links = record { link = size 2 (omega arith); loss = size 3 (omega arith) };
+        schedule = record { kw = size 4 (omega arith); rank = size 5 (omega arith) };
+        generators =
+            record {
+              injected = size 6 (omega arith);
+              unaccounted = size 7 (omega arith);
+              lost = size 8 (omega arith);
+              setoff = size 9 (omega arith);
+              inadvertent = size 10 (omega arith);
+              charge = size 11 (omega arith);
+              drawn = size 12 (omega arith);
+              lapsed = size 13 (omega arith);
+              bank = size 14 (omega arith);
+              pending = size 15 (omega arith);
+            };
+        consumers =
+            record {
+              metered = size 16 (omega arith);
+              setoff = size 17 (omega arith);
+              shortfall = size 18 (omega arith);
+              drawn = size 19 (omega arith);
+              supplied = size 20 (omega arith);
+              outstanding = size 21 (omega arith);
+            };
+      }
+
+  pub record-kept : stored (figures (recordOf ws)) ≡ recordOf ws
+  record-kept = stored-figures (recordOf ws) record-shape
+
+  pub numbers-low : Facts (figures (recordOf ws)) → (i : ℕ) → getD ws i 0 ≤ most
+  numbers-low f i =
+      let same : words (stored (figures (recordOf ws))) ≡ ws = ap words record-kept ∙ words-of-record ws e in
+      rw same at (words-low (figures (recordOf ws)) f i)

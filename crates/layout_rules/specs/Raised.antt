@@ -1,0 +1,201 @@
+-- Numbers of a list raised where they stand, and what that makes of its runs. Assumes nothing.
+use Prim.Native.Nat.{ℕ, zero, suc, _+_, _-_, _≤_, _<_}
+use mathlib.Core.Path.{_≡_, refl, sym, ap, ap₂, _∙_}
+use mathlib.Core.Bool.{Bool, true, false}
+use mathlib.Core.List.{List, [], _∷_}
+use mathlib.Core.Logic.{⊎-elim}
+use native.Mathlib.Numerals.{add-one}
+use native.Mathlib.Nat.{zero-add, add-zero, add-assoc, eq-or-lt-of-le, eq-zero-or-pos}
+use native.Mathlib.Omega.{arith}
+use lib.Dec.{eqb}
+use borrow.Author.Tests.{eqb-true, eqb-false}
+use lib.ListN.{length, getD, set, take, drop, length-set}
+use lib.Seq.{getD-set-same, getD-set-other, set-getD, set-set, set-comm, take-set-le, take-set-lt, drop-set-lt, drop-set-add, getD-take, getD-drop}
+use Rattle.lists.specs.Choice.{if_then_else_}
+use Rattle.lists.specs.Tables.{table, is-table}
+use Rattle.lists.specs.Pairs.{place}
+use Rattle.lists.specs.PairsLaws.{place-in}
+use Rattle.record.specs.Words.{total, cut}
+
+-- f i added to the number at place `at i`, for each i below n in turn
+unfoldable pub raised : (ℕ → ℕ) → ℕ → (ℕ → ℕ) → List ℕ → List ℕ
+raised at zero f ws = ws
+raised at (suc n) f ws = let xs = raised at n f ws in set xs (at n) (getD xs (at n) 0 + f n)
+
+-- the places from `at` on
+abbrev pub from : ℕ → ℕ → ℕ
+from at i = at + i
+
+module _ (at f : ℕ → ℕ) (ws : List ℕ) where
+  pub raised-none : raised at 0 f ws ≡ ws
+  unfolding raised
+  raised-none = refl
+
+  pub raised-more : (i : ℕ) → raised at (i + 1) f ws ≡ set (raised at i f ws) (at i) (getD (raised at i f ws) (at i) 0 + f i)
+  unfolding raised
+  raised-more i = rw add-one
+
+  pub length-raised : (n : ℕ) → length (raised at n f ws) ≡ length ws
+  unfolding raised
+  length-raised zero = refl
+  length-raised (suc n) = length-set (raised at n f ws) (at n) _ ∙ length-raised n
+
+  -- a number at no such place stays
+  pub raised-other : (n k : ℕ) → ((i : ℕ) → i < n → k ≡ at i → ⊥) → getD (raised at n f ws) k 0 ≡ getD ws k 0
+  unfolding raised
+  raised-other zero k h = refl
+  raised-other (suc n) k h = getD-set-other (raised at n f ws) (at n) k _ 0 (h n (omega arith)) ∙ raised-other n k (λ i l. h i (omega arith))
+
+  -- where the places differ, each is raised once
+  pub raised-at : ((i j : ℕ) → i < j → at i ≡ at j → ⊥) → (n i : ℕ) → i < n → at i < length ws → getD (raised at n f ws) (at i) 0 ≡ getD ws (at i) 0 + f i
+  unfolding raised
+  raised-at apart zero i l b = absurd (omega arith)
+  raised-at apart (suc n) i l b =
+      ⊎-elim
+      (λ (e : i ≡ n).
+      rw (← e)
+      (getD-set-same (raised at i f ws) (at i) _ 0 (omega (arith, length-raised i)) ∙ ap (λ (x : ℕ). x + f i) (raised-other i (at i) (λ j b p. apart j i b (sym p)))))
+      (λ (h : i < n). getD-set-other (raised at n f ws) (at n) (at i) _ 0 (apart i n h) ∙ raised-at apart n i h b)
+      (eq-or-lt-of-le (omega arith))
+
+-- the same by other names for what is added
+pub raised-same : (at f g : ℕ → ℕ) (ws : List ℕ) (n : ℕ) → ((i : ℕ) → i < n → f i ≡ g i) → raised at n f ws ≡ raised at n g ws
+unfolding raised
+raised-same at f g ws zero h = refl
+raised-same at f g ws (suc n) h = rw (raised-same at f g ws n (λ i l. h i (omega arith)), h n (omega arith))
+
+-- a number set elsewhere is set before or after
+raised-set : (at f : ℕ → ℕ) (ws : List ℕ) (n k v : ℕ) → ((i : ℕ) → i < n → k ≡ at i → ⊥) → raised at n f (set ws k v) ≡ set (raised at n f ws) k v
+unfolding raised
+raised-set at f ws zero k v h = refl
+raised-set at f ws (suc n) k v h =
+    let xs : List ℕ = raised at n f ws in
+    let apart : k ≡ at n → ⊥ = h n (omega arith) in
+    rw (raised-set at f ws n k v (λ i l. h i (omega arith)), getD-set-other xs k (at n) v 0 (λ e. apart (sym e))) (set-comm xs k (at n) v _ apart)
+
+pub raised-nothing : (at f : ℕ → ℕ) (ws : List ℕ) (n : ℕ) → ((i : ℕ) → i < n → f i ≡ 0) → raised at n f ws ≡ ws
+unfolding raised
+raised-nothing at f ws zero h = refl
+raised-nothing at f ws (suc n) h = rw (raised-nothing at f ws n (λ i l. h i (omega arith)), h n (omega arith), add-zero) (set-getD ws (at n) 0)
+
+-- numbers raised again
+pub raised-twice : (p : ℕ) (f g : ℕ → ℕ) (ws : List ℕ) (n : ℕ) → p + n ≤ length ws →
+    raised (from p) n g (raised (from p) n f ws) ≡ raised (from p) n (λ i. f i + g i) ws
+unfolding raised
+raised-twice p f g ws zero h = refl
+raised-twice p f g ws (suc n) h =
+    let xs : List ℕ = raised (from p) n f ws in
+    let ys : List ℕ = raised (from p) n (λ i. f i + g i) ws in
+    let v : ℕ = getD xs (p + n) 0 + f n in
+    let apart : (i : ℕ) → i < n → p + n ≡ p + i → ⊥ = λ i l e. omega arith in
+    let again : raised (from p) n g (set xs (p + n) v) ≡ set ys (p + n) v =
+    raised-set (from p) g xs n (p + n) v apart ∙ ap (λ (zs : List ℕ). set zs (p + n) v) (raised-twice p f g ws n (omega arith)) in
+    let inside : p + n < length ys = omega (arith, length-raised (from p) (λ i. f i + g i) ws n) in
+    let number : v + g n ≡ getD ys (p + n) 0 + (f n + g n) =
+    omega (arith, raised-other (from p) f ws n (p + n) apart, raised-other (from p) (λ i. f i + g i) ws n (p + n) apart) in
+    rw (again, getD-set-same ys (p + n) v 0 inside, set-set ys (p + n) v (v + g n), number)
+
+-- no number is raised by more than what is added at most
+pub raised-cap : (p n d : ℕ) (f : ℕ → ℕ) (ws : List ℕ) → p + n ≤ length ws → ((i : ℕ) → i < n → f i ≤ d) → (k : ℕ) → getD (raised (from p) n f ws) k 0 ≤ getD ws k 0 + d
+unfolding raised
+raised-cap p zero d f ws h most k = omega arith
+raised-cap p (suc n) d f ws h most k = go (raised-cap p n d f ws (omega arith) (λ i l. most i (omega arith)) k) (eqb k (p + n)) refl
+  where
+    xs : List ℕ
+    xs = raised (from p) n f ws
+
+    apart : (i : ℕ) → i < n → p + n ≡ p + i → ⊥
+    apart i l e = omega arith
+
+    go : getD xs k 0 ≤ getD ws k 0 + d → (t : Bool) → eqb k (p + n) ≡ t → getD (set xs (p + n) (getD xs (p + n) 0 + f n)) k 0 ≤ getD ws k 0 + d
+    go before true e =
+        rw (eqb-true k (p + n) e, getD-set-same xs (p + n) (getD xs (p + n) 0 + f n) 0 (omega (arith, length-raised (from p) f ws n)))
+        (omega (arith, raised-other (from p) f ws n (p + n) apart, most n (omega arith)))
+    go before false e = rw (getD-set-other xs (p + n) k (getD xs (p + n) 0 + f n) 0 (eqb-false k (p + n) e)) before
+
+-- a whole list raised, nothing being added from place n on
+pub raised-table : (k n : ℕ) (f g : ℕ → ℕ) (xs : List ℕ) → length xs ≡ k → n ≤ k → ((i : ℕ) → i < n → f i ≡ g i) → ((i : ℕ) → n ≤ i → g i ≡ 0) →
+    raised (λ i. i) n f xs ≡ table k (λ i. place k xs i + g i)
+raised-table k n f g xs e b same none = is-table 0 k (λ i. place k xs i + g i) (raised (λ i. i) n f xs) (length-raised (λ i. i) f xs n ∙ e) (λ i l. here i l)
+  where
+    here : (i : ℕ) → i < k → getD (raised (λ i. i) n f xs) i 0 ≡ place k xs i + g i
+    here i l =
+        ⊎-elim
+        (λ (z : n - i ≡ 0). omega (arith, raised-other (λ i. i) f xs n i (λ j h p. omega arith), place-in k xs i l, none i (omega arith)))
+        (λ (p : 0 < n - i). let h : i < n = omega arith in omega (arith, raised-at (λ i. i) f xs (λ i j h p. omega arith) n i h (omega arith), place-in k xs i l, same i h))
+        (eq-zero-or-pos (n - i))
+
+-- ---- places of two lists, chosen for each number
+
+module _ (t : ℕ → Bool) (a b : ℕ) (f : ℕ → ℕ) (ws : List ℕ) where
+  -- what is added to the first list, and to the second
+  abbrev pub first : ℕ → ℕ
+  first i = if t i then f i else 0
+
+  abbrev pub second : ℕ → ℕ
+  second i = if t i then 0 else f i
+
+  pub raised-either : (n : ℕ) → a + n ≤ b → raised (λ i. if t i then a + i else b + i) n f ws ≡ raised (from b) n second (raised (from a) n first ws)
+  unfolding raised
+  raised-either zero h = refl
+  raised-either (suc n) h = rw (raised-either n (omega arith)) (go (t n))
+    where
+      unraised : (zs : List ℕ) (k : ℕ) → set zs k (getD zs k 0 + 0) ≡ zs
+      unraised zs k = rw add-zero (set-getD zs k 0)
+
+      xs : List ℕ
+      xs = raised (from a) n first ws
+
+      ys : List ℕ → List ℕ
+      ys zs = raised (from b) n second zs
+
+      apart : (i : ℕ) → i < n → a + n ≡ b + i → ⊥
+      apart i l e = omega arith
+
+      go : (x : Bool) →
+          set (ys xs) (if x then a + n else b + n) (getD (ys xs) (if x then a + n else b + n) 0 + f n) ≡
+          (let zs = ys (set xs (a + n) (getD xs (a + n) 0 + (if x then f n else 0))) in set zs (b + n) (getD zs (b + n) 0 + (if x then 0 else f n)))
+      go true = rw (raised-other (from b) second xs n (a + n) apart) (sym (unraised _ (b + n) ∙ raised-set (from b) second xs n (a + n) _ apart))
+      go false = rw (unraised xs (a + n))
+
+-- ---- the runs of a list that is cut
+
+-- a number set within run j
+set-run : (ns ws : List ℕ) (j i v : ℕ) → i < getD ns j 0 → cut ns (set ws (total (take j ns) + i) v) ≡ set (cut ns ws) j (set (getD (cut ns ws) j []) i v)
+unfolding cut total
+set-run [] ws j i v h = absurd (omega arith)
+set-run (n ∷ ns) ws zero i v h = rw (zero-add, take-set-lt n ws i v h, drop-set-lt n ws i v h)
+set-run (n ∷ ns) ws (suc j) i v h =
+    rw (add-assoc, take-set-le n ws (n + (total (take j ns) + i)) v (omega arith), drop-set-add) (ap (λ (l : List (List ℕ)). take n ws ∷ l) (set-run ns (drop n ws) j i v h))
+
+run-place : (ns ws : List ℕ) (j i : ℕ) → i < getD ns j 0 → getD ws (total (take j ns) + i) 0 ≡ getD (getD (cut ns ws) j []) i 0
+unfolding cut total
+run-place [] ws j i h = absurd (omega arith)
+run-place (n ∷ ns) ws zero i h = rw zero-add (sym (getD-take n ws i 0 h))
+run-place (n ∷ ns) ws (suc j) i h = rw add-assoc (sym (getD-drop n ws (total (take j ns) + i) 0) ∙ run-place ns (drop n ws) j i h)
+
+-- run j is one of the runs
+run-among : (ns ws : List ℕ) (j i : ℕ) → i < getD ns j 0 → j < length (cut ns ws)
+unfolding cut
+run-among [] ws j i h = absurd (omega arith)
+run-among (n ∷ ns) ws zero i h = omega arith
+run-among (n ∷ ns) ws (suc j) i h = omega (arith, run-among ns (drop n ws) j i h)
+
+-- run j of n numbers raised at its places p, as a list of its own
+abbrev pub runRaised : ℕ → (ℕ → ℕ) → ℕ → (ℕ → ℕ) → List (List ℕ) → List (List ℕ)
+runRaised j p n f xss = set xss j (raised p n f (getD xss j []))
+
+pub raised-run : (ns ws : List ℕ) (j : ℕ) (p : ℕ → ℕ) (n : ℕ) (f : ℕ → ℕ) → ((i : ℕ) → i < n → p i < getD ns j 0) →
+    cut ns (raised (λ i. total (take j ns) + p i) n f ws) ≡ runRaised j p n f (cut ns ws)
+unfolding raised
+raised-run ns ws j p zero f h = sym (set-getD (cut ns ws) j [])
+raised-run ns ws j p (suc n) f h =
+    let at : ℕ → ℕ = λ i. total (take j ns) + p i in
+    let xs : List ℕ = raised at n f ws in
+    let old : List (List ℕ) = cut ns ws in
+    let ys : List ℕ = raised p n f (getD old j []) in
+    let l : p n < getD ns j 0 = h n (omega arith) in
+    let before : cut ns xs ≡ set old j ys = raised-run ns ws j p n f (λ i b. h i (omega arith)) in
+    let here : getD (cut ns xs) j [] ≡ ys = ap (λ (xss : List (List ℕ)). getD xss j []) before ∙ getD-set-same old j ys [] (run-among ns ws j (p n) l) in
+    let number : getD xs (at n) 0 ≡ getD ys (p n) 0 = run-place ns xs j (p n) l ∙ ap (λ (zs : List ℕ). getD zs (p n) 0) here in
+    set-run ns xs j (p n) (getD xs (at n) 0 + f n) l ∙ rw (number, here, before) (set-set old j ys (set ys (p n) (getD ys (p n) 0 + f n)))

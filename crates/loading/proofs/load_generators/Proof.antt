@@ -1,0 +1,106 @@
+-- `loading::load_generators` meets its contract: each figure is read at its place. Assumes nothing.
+use mathlib.Core.Path.{sym, _∙_}
+use borrow.Author.Needs.{needs}
+use Rattle.codec.specs.Bytes.{decode}
+use Rattle.layout_rules.specs.Layout.{generators-at}
+use Rattle.loading.proofs.load_generators.Statement.{statement}
+use Rattle.loading.proofs.load_generators.Tie as tie
+
+load8-requires : tie.Need-load8-requires
+load8-requires c κs = search needs
+
+add-load8 : tie.Need-add-load8
+add-load8 c = search needs
+
+load8-requires-2 : tie.Need-load8-requires-2
+load8-requires-2 c κs = search needs
+
+add-load8-2 : tie.Need-add-load8-2
+add-load8-2 c = search needs
+
+load8-requires-3 : tie.Need-load8-requires-3
+load8-requires-3 c κs = search needs
+
+add-load8-3 : tie.Need-add-load8-3
+add-load8-3 c = search needs
+
+load8-requires-4 : tie.Need-load8-requires-4
+load8-requires-4 c κs = search needs
+
+add-load8-4 : tie.Need-add-load8-4
+add-load8-4 c = search needs
+
+load8-requires-5 : tie.Need-load8-requires-5
+load8-requires-5 c κs = search needs
+
+add-load8-5 : tie.Need-add-load8-5
+add-load8-5 c = search needs
+
+load8-requires-6 : tie.Need-load8-requires-6
+load8-requires-6 c κs = search needs
+
+add-load8-6 : tie.Need-add-load8-6
+add-load8-6 c = search needs
+
+load8-requires-7 : tie.Need-load8-requires-7
+load8-requires-7 c κs = search needs
+
+add-load8-7 : tie.Need-add-load8-7
+add-load8-7 c = search needs
+
+load8-requires-8 : tie.Need-load8-requires-8
+load8-requires-8 c κs = search needs
+
+add-load8-8 : tie.Need-add-load8-8
+add-load8-8 c = search needs
+
+load8-requires-9 : tie.Need-load8-requires-9
+load8-requires-9 c κs = search needs
+
+add-load8-9 : tie.Need-add-load8-9
+add-load8-9 c = search needs
+
+load8-requires-10 : tie.Need-load8-requires-10
+load8-requires-10 c κs = search needs
+
+returns : tie.Need-returns
+returns c =
+    let start = c .before .before .before .before .before .before .before .before .before .before .before in
+    (λ i. record {
+      injected = c .before .before .before .before .before .before .before .before .before .load8 .ensures i;
+      unaccounted = c .before .before .before .before .before .before .before .before .load82 .ensures i;
+      lost = c .before .before .before .before .before .before .before .load83 .ensures i;
+      setoff = c .before .before .before .before .before .before .load84 .ensures i;
+      inadvertent = c .before .before .before .before .before .load85 .ensures i;
+      charge = c .before .before .before .before .load86 .ensures i;
+      drawn = c .before .before .before .load87 .ensures i;
+      lapsed = c .before .before .load88 .ensures i;
+      bank = c .before .load89 .ensures i;
+      pending = c .load810 .ensures i;
+    }) ∙
+    sym (generators-at (decode 8 719 (start .args .s .now)))
+
+pub load-generators-spec : {M : Type 1} → statement M
+load-generators-spec =
+    tie.close
+    (tie.spec
+    load8-requires
+    add-load8
+    load8-requires-2
+    add-load8-2
+    load8-requires-3
+    add-load8-3
+    load8-requires-4
+    add-load8-4
+    load8-requires-5
+    add-load8-5
+    load8-requires-6
+    add-load8-6
+    load8-requires-7
+    add-load8-7
+    load8-requires-8
+    add-load8-8
+    load8-requires-9
+    add-load8-9
+    load8-requires-10
+    returns)

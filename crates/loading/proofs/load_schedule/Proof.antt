@@ -1,0 +1,18 @@
+-- `loading::load_schedule` meets its contract: each figure is read at its place. Assumes nothing.
+use borrow.Author.Needs.{needs}
+use Rattle.codec.specs.Bytes.{decode}
+use Rattle.layout_rules.specs.Layout.{schedule-at}
+use Rattle.loading.proofs.load_schedule.Statement.{statement}
+use Rattle.loading.proofs.load_schedule.Tie as tie
+
+load-pairs-requires : tie.Need-load-pairs-requires
+load-pairs-requires c κs = search needs
+
+load-pairs-requires-2 : tie.Need-load-pairs-requires-2
+load-pairs-requires-2 c κs = search needs
+
+returns : tie.Need-returns
+returns c = cc (schedule-at (decode 8 719 (c .before .before .before .args .s .now)))
+
+pub load-schedule-spec : {M : Type 1} → statement M
+load-schedule-spec = tie.close (tie.spec load-pairs-requires load-pairs-requires-2 returns)

@@ -1,0 +1,198 @@
+// Reads the record's parts from its bytes. Called by this repository's crates only: what a function requires, its callers meet.
+ghost use mathlib.Core.Path.{_≡_};
+ghost use Prim.Native.Nat.{_+_, _≤_, _<_};
+ghost use lib.ListN.{length, getD};
+ghost use Rattle.codec.specs.Bytes.{decode};
+ghost use Rattle.record.specs.Words.{recordOf};
+ghost use Rattle.layout_rules.specs.Layout.{run, columnOf};
+
+// Reads as many numbers as `out` has, from place `at` on.
+fn load_run(s: &[u8], at: usize, out: &mut [u64])
+    requires { ⌜ (length (now s) ≡ 5752) × (at + length (now out) ≤ 719) ⌝ }
+    ensures { λ _. ⌜ now (out .exit) ≡ run (decode 8 719 (now (s .entry))) (length (now (out .entry))) at ⌝ }
+{
+    let start = at * 8;
+    let end = start + out.len() * 8;
+    codec::read8(&s[start..end], out);
+}
+
+fn load8(s: &[u8], at: usize) -> [u64; 8]
+    requires { ⌜ (length (now s) ≡ 5752) × (at + 8 ≤ 719) ⌝ }
+    ensures { λ r. ⌜ r ≡ run (decode 8 719 (now (s .entry))) 8 at ⌝ }
+{
+    let mut out = [0u64; 8];
+    load_run(s, at, &mut out);
+    out
+}
+
+fn load16(s: &[u8], at: usize) -> [u64; 16]
+    requires { ⌜ (length (now s) ≡ 5752) × (at + 16 ≤ 719) ⌝ }
+    ensures { λ r. ⌜ r ≡ run (decode 8 719 (now (s .entry))) 16 at ⌝ }
+{
+    let mut out = [0u64; 16];
+    load_run(s, at, &mut out);
+    out
+}
+
+// A pair list.
+pub fn load_pairs(s: &[u8], at: usize) -> [u64; 128]
+    requires { ⌜ (length (now s) ≡ 5752) × (at + 128 ≤ 719) ⌝ }
+    ensures { λ r. ⌜ r ≡ run (decode 8 719 (now (s .entry))) 128 at ⌝ }
+{
+    let mut out = [0u64; 128];
+    load_run(s, at, &mut out);
+    out
+}
+
+// Number `k` of each of 8 rows of 3.
+fn column(rows: [u64; 24], k: usize) -> [u64; 8]
+    requires { ⌜ k < 3 ⌝ }
+    ensures { λ r. ⌜ r ≡ columnOf rows k ⌝ }
+{
+    let mut out = [0u64; 8];
+    let mut g: usize = 0;
+    while g < 8 {
+        out[g] = rows[g * 3 + k];
+        g += 1;
+    }
+    out
+}
+
+pub fn load_terms(s: &[u8]) -> record::Terms
+    requires { ⌜ length (now s) ≡ 5752 ⌝ }
+    ensures { λ r. ⌜ r ≡ recordOf (decode 8 719 (now (s .entry))) .terms ⌝ }
+{
+    let mut head = [0u64; 4];
+    load_run(s, layout_rules::TERMS, &mut head);
+    record::Terms {
+        generators: head[0],
+        consumers: head[1],
+        rate: head[2],
+        cycle: head[3],
+    }
+}
+
+pub fn load_counts(s: &[u8]) -> record::Counts
+    requires { ⌜ length (now s) ≡ 5752 ⌝ }
+    ensures { λ r. ⌜ r ≡ recordOf (decode 8 719 (now (s .entry))) .counts ⌝ }
+{
+    let mut head = [0u64; 3];
+    load_run(s, layout_rules::COUNTS, &mut head);
+    record::Counts {
+        gone: head[0],
+        blocks: head[1],
+        month: head[2],
+    }
+}
+
+pub fn load_agreed(s: &[u8]) -> record::Agreed
+    requires { ⌜ length (now s) ≡ 5752 ⌝ }
+    ensures { λ r. ⌜ r ≡ recordOf (decode 8 719 (now (s .entry))) .agreed ⌝ }
+{
+    let mut rows = [0u64; 24];
+    load_run(s, layout_rules::AGREED, &mut rows);
+    let kind = column(rows, 0);
+    let installed = column(rows, 1);
+    let contracted = column(rows, 2);
+    record::Agreed {
+        kind,
+        installed,
+        contracted,
+    }
+}
+
+fn load_links(s: &[u8]) -> record::Links
+    requires { ⌜ length (now s) ≡ 5752 ⌝ }
+    ensures { λ r. ⌜ r ≡ recordOf (decode 8 719 (now (s .entry))) .links ⌝ }
+{
+    let link = load_pairs(s, layout_rules::LINK);
+    let loss = load_pairs(s, layout_rules::LOSS);
+    record::Links { link, loss }
+}
+
+fn load_schedule(s: &[u8]) -> record::Schedule
+    requires { ⌜ length (now s) ≡ 5752 ⌝ }
+    ensures { λ r. ⌜ r ≡ recordOf (decode 8 719 (now (s .entry))) .schedule ⌝ }
+{
+    let kw = load_pairs(s, layout_rules::KW);
+    let rank = load_pairs(s, layout_rules::RANK);
+    record::Schedule { kw, rank }
+}
+
+pub fn load_generators(s: &[u8]) -> record::Generators
+    requires { ⌜ length (now s) ≡ 5752 ⌝ }
+    ensures { λ r. ⌜ r ≡ recordOf (decode 8 719 (now (s .entry))) .generators ⌝ }
+{
+    let injected = load8(s, layout_rules::GENERATORS);
+    let unaccounted = load8(s, layout_rules::GENERATORS + 8);
+    let lost = load8(s, layout_rules::GENERATORS + 16);
+    let setoff = load8(s, layout_rules::GENERATORS + 24);
+    let inadvertent = load8(s, layout_rules::GENERATORS + 32);
+    let charge = load8(s, layout_rules::GENERATORS + 40);
+    let drawn = load8(s, layout_rules::GENERATORS + 48);
+    let lapsed = load8(s, layout_rules::GENERATORS + 56);
+    let bank = load8(s, layout_rules::GENERATORS + 64);
+    let pending = load8(s, layout_rules::GENERATORS + 72);
+    record::Generators {
+        injected,
+        unaccounted,
+        lost,
+        setoff,
+        inadvertent,
+        charge,
+        drawn,
+        lapsed,
+        bank,
+        pending,
+    }
+}
+
+pub fn load_consumers(s: &[u8]) -> record::Consumers
+    requires { ⌜ length (now s) ≡ 5752 ⌝ }
+    ensures { λ r. ⌜ r ≡ recordOf (decode 8 719 (now (s .entry))) .consumers ⌝ }
+{
+    let metered = load16(s, layout_rules::CONSUMERS);
+    let setoff = load16(s, layout_rules::CONSUMERS + 16);
+    let shortfall = load16(s, layout_rules::CONSUMERS + 32);
+    let drawn = load16(s, layout_rules::CONSUMERS + 48);
+    let supplied = load16(s, layout_rules::CONSUMERS + 64);
+    let outstanding = load16(s, layout_rules::CONSUMERS + 80);
+    record::Consumers {
+        metered,
+        setoff,
+        shortfall,
+        drawn,
+        supplied,
+        outstanding,
+    }
+}
+
+pub fn load(s: &[u8]) -> record::Record
+    requires { ⌜ length (now s) ≡ 5752 ⌝ }
+    ensures { λ r. ⌜ r ≡ recordOf (decode 8 719 (now (s .entry))) ⌝ }
+{
+    let terms = load_terms(s);
+    let counts = load_counts(s);
+    let agreed = load_agreed(s);
+    let links = load_links(s);
+    let schedule = load_schedule(s);
+    let generators = load_generators(s);
+    let consumers = load_consumers(s);
+    record::Record {
+        terms,
+        counts,
+        agreed,
+        links,
+        schedule,
+        generators,
+        consumers,
+    }
+}
+
+// Number `k` of the record, read where it stands.
+pub fn number_at(s: &[u8], k: usize) -> u64
+    requires { ⌜ (length (now s) ≡ 5752) × (k < 719) ⌝ }
+    ensures { λ r. ⌜ r ≡ getD (decode 8 719 (now (s .entry))) k 0 ⌝ }
+{
+    codec::number8(s, k * 8)
+}

@@ -1,0 +1,116 @@
+-- Agreement A and the lines of a table entered under it, as the functions make the calls. Assumes nothing.
+use Prim.Native.Nat.{ℕ, suc, _+_, _-_, _≤_, _<_}
+use mathlib.Core.Path.{_≡_, refl, sym, ap, _∙_, subst}
+use mathlib.Core.Bool.{true}
+use mathlib.Core.List.{List, [], _∷_}
+use native.Mathlib.Omega.{arith}
+use borrow.Author.Tests.{eq-eqb}
+use lib.ListN.{length, drop, getD, length-drop}
+use lib.Seq.{drop-cons}
+use Rattle.record.specs.Book.{Book}
+use Rattle.record.specs.Stored.{figures, stored}
+use Rattle.record.specs.Sound.{sound}
+use Rattle.record.specs.SoundLaws.{Facts, facts-sound, facts-cut}
+use Rattle.record.specs.StoredLaws.{figures-stored}
+use Rattle.record.specs.declared.Record.{Record}
+use Rattle.record.specs.declared.Answer.{Answer}
+use Rattle.agreement_rules.specs.Opening.{openingRefusal, opened, Opened}
+use Rattle.agreement_rules.specs.OpeningLaws.{accepted-permitted, opened-facts}
+use Rattle.agreement_rules.specs.Schedule.{Scheduled}
+use Rattle.unit.specs.Calls.{block, closing, ruleOf, bookAfter, Entry, bookAnswers}
+use Rattle.unit.specs.AgreementA.{agreementA, scheduleA}
+use Rattle.unit.specs.BenchCases.{bench-cases}
+use Rattle.report_rules.specs.Display.{blocks, calls, firstRefused}
+use Rattle.month.specs.Carried.{Holds, Carried}
+use Rattle.month.specs.CarriedLaws.{carried-one, carried-none, carried-then, carried-stop}
+
+-- ---- agreement A
+
+opening-accepted : openingRefusal agreementA ≡ 0
+opening-accepted = omega (arith, bench-cases .all-opened)
+
+first : List Entry → ℕ
+first [] = 0
+first (e ∷ es) = e .number
+
+schedule-accepted : ruleOf scheduleA .refusal (opened agreementA) ≡ 0
+unfolding bookAnswers first
+schedule-accepted = ap first (bench-cases .P1)
+
+opened-held : {number : ℕ} {r : Record} → Opened agreementA number r → Holds r (opened agreementA)
+opened-held {number} {r} h =
+    let f : Facts (opened agreementA) = opened-facts agreementA (accepted-permitted agreementA opening-accepted) in
+    let e : r ≡ stored (opened agreementA) = h .record-is ∙ rw (eq-eqb (openingRefusal agreementA) 0 opening-accepted) in
+    record { is = ap figures e ∙ figures-stored (opened agreementA) (facts-cut (opened agreementA) f); sound-is = facts-sound (opened agreementA) f }
+
+-- the first call's number is the schedule's
+schedule-first : firstRefused (bookAnswers (opened agreementA) (scheduleA ∷ [])) ≡ 0
+unfolding bookAnswers firstRefused
+schedule-first = rw (eq-eqb (ruleOf scheduleA .refusal (opened agreementA)) 0 schedule-accepted)
+
+pub agreement-held : {number : ℕ} {r : Record} {a : Answer} → Opened agreementA number r → Scheduled r (100 ∷ 200 ∷ []) (1 ∷ 1 ∷ []) a
+    → Holds (a .after) (bookAfter (opened agreementA) (scheduleA ∷ []))
+unfolding ruleOf
+agreement-held {number} {r} {a} o h =
+    let q = opened-held o in
+    let k : Carried (opened agreementA) (scheduleA ∷ []) a =
+    subst (λ (b : Book). Carried b (scheduleA ∷ []) a) (q .is) (carried-one scheduleA (ap sound (q .is) ∙ q .sound-is) h) in
+    k .holds (k .number-is ∙ schedule-first)
+
+-- ---- lines
+
+pub blocks-none : (vs : List ℕ) → length vs ≤ 2 → blocks vs ≡ []
+unfolding blocks
+blocks-none [] h = refl
+blocks-none (e ∷ []) h = refl
+blocks-none (e ∷ r₁ ∷ []) h = refl
+blocks-none (e ∷ r₁ ∷ r₂ ∷ vs) h = absurd (omega arith)
+
+pub blocks-line : (vs : List ℕ) (i : ℕ) → 2 < length vs - i
+    → blocks (drop i vs) ≡ block (getD vs i 0 ∷ []) (getD vs (i + 1) 0 ∷ getD vs (i + 2) 0 ∷ []) 11 ∷ blocks (drop (i + 3) vs)
+unfolding blocks
+blocks-line vs i h =
+    let a : i + 1 ≡ suc i = omega arith in
+    let b : i + 2 ≡ suc (suc i) = omega arith in
+    let c : i + 3 ≡ suc (suc (suc i)) = omega arith in
+    rw (a, b, c, drop-cons vs i 0 (omega arith), drop-cons vs (suc i) 0 (omega arith), drop-cons vs (suc (suc i)) 0 (omega arith))
+
+-- The invariant of the loop over the lines: i values are entered, and carrying out the lines after them on the record at carries
+-- out all lines on the first record.
+pub record Entering (first : Record) (vs : List ℕ) (at : Record) (i : ℕ) : Type 0 where
+  pub within : i ≤ length vs
+  pub sound-is : sound (figures at) ≡ true
+  pub rest : (a : Answer) → Carried (figures at) (blocks (drop i vs)) a → Carried (figures first) (blocks vs) a
+
+pub entering-start : (r : Record) (vs : List ℕ) → sound (figures r) ≡ true → Entering r vs r 0
+entering-start r vs s = record { within = omega arith; sound-is = s; rest = λ a h. h }
+
+module _ {first : Record} {vs : List ℕ} {at : Record} {i : ℕ} (h : Entering first vs at i) where
+  module _ {a : Answer} (l : 2 < length vs - i) (k : Carried (figures at) (block (getD vs i 0 ∷ []) (getD vs (i + 1) 0 ∷ getD vs (i + 2) 0 ∷ []) 11 ∷ []) a) where
+    pub entering-step : a .number ≡ 0 → Entering first vs (a .after) (i + 3)
+    entering-step z =
+        record {
+          within = omega arith;
+          sound-is = rw (k .holds z .is) (k .holds z .sound-is);
+          rest = λ a′ k′. h .rest a′ (rw (blocks-line vs i l) (carried-then k z k′));
+        }
+
+    pub entering-stop : (a .number ≡ 0 → ⊥) → Carried (figures first) (blocks vs) a
+    entering-stop z = h .rest a (rw (blocks-line vs i l) (carried-stop k (blocks (drop (i + 3) vs)) z))
+
+  pub entering-done : length vs - i ≤ 2 → Carried (figures first) (blocks vs) (record { number = 0; after = at })
+  entering-done l = h .rest (record { number = 0; after = at }) (rw (blocks-none (drop i vs) (omega (arith, length-drop i vs))) (carried-none at (h .sound-is)))
+
+-- ---- the month
+
+scheduled : {r : Record} → Holds r (bookAfter (opened agreementA) (scheduleA ∷ [])) → Carried (opened agreementA) (scheduleA ∷ []) (record { number = 0; after = r })
+scheduled {r} q = record { number-is = sym schedule-first; holds = λ z. q }
+
+module _ (vs : List ℕ) {r : Record} {a : Answer} (q : Holds r (bookAfter (opened agreementA) (scheduleA ∷ []))) (k : Carried (figures r) (blocks vs) a) where
+  pub month-stop : (a .number ≡ 0 → ⊥) → Carried (opened agreementA) (calls vs) a
+  unfolding calls
+  month-stop z = carried-then (scheduled q) refl (carried-stop k (closing 9 ∷ []) z)
+
+  pub month-close : {a′ : Answer} → a .number ≡ 0 → Carried (figures (a .after)) (closing 9 ∷ []) a′ → Carried (opened agreementA) (calls vs) a′
+  unfolding calls
+  month-close z k′ = carried-then (scheduled q) refl (carried-then k z k′)

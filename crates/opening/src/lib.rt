@@ -1,0 +1,227 @@
+// Opening a unit: the call's number on the display, and the first record.
+ghost use mathlib.Core.Path.{_≡_};
+ghost use Prim.Native.Nat.{_*_, _≤_};
+ghost use lib.ListN.{length};
+ghost use Rattle.energy.specs.Limits.{mostGenerators, mostConsumers};
+ghost use Rattle.record.specs.Book.{noInjection, noConsumption};
+ghost use Rattle.record.specs.Stored.{storedGenerators, storedConsumers, stored, zeros};
+ghost use Rattle.agreement_rules.specs.Opening.{openingRefusal, opened, Opened, Permitted};
+ghost use Rattle.agreement_rules.specs.Reading.{Threes};
+ghost use Rattle.agreement_rules.specs.Refusing.{asked, sizesFit, termsFit};
+ghost use Rattle.agreement_rules.specs.Storing.{agreedFrom, linksFrom, firstSchedule};
+
+// ---- the number; tests are joined by & and |, which do not branch
+
+fn sizes_fit(n: usize, m: usize, generator_list: &[u32], pair_list: &[u32]) -> bool
+    ensures { λ r. ⌜ r ≡ sizesFit n m (now («generator_list» .entry)) (now («pair_list» .entry)) ⌝ }
+{
+    if ((1 <= n) & (n <= 8)) & ((1 <= m) & (m <= 16)) {
+        (generator_list.len() == 3 * n) & (pair_list.len() == 2 * (n * m))
+    } else {
+        false
+    }
+}
+
+fn terms_fit(rate: u32, cycle: u32, gone: u32) -> bool
+    ensures { λ r. ⌜ r ≡ termsFit rate cycle gone ⌝ }
+{
+    (lists::wide(rate) <= record::MOST_RATE)
+        & ((1 <= cycle) & (lists::wide(cycle) <= record::MOST_CYCLE))
+        & (gone < cycle)
+}
+
+// The number of an opening: 3 to 6 are tested where the lists have the lengths that are read.
+fn opening_refusal(
+    n: usize,
+    m: usize,
+    rate: u32,
+    cycle: u32,
+    gone: u32,
+    generator_list: &[u32],
+    pair_list: &[u32],
+) -> u32
+    ensures { λ r. ⌜ r ≡ openingRefusal (asked n m rate cycle gone (now («generator_list» .entry)) (now («pair_list» .entry))) ⌝ }
+{
+    if sizes_fit(n, m, generator_list, pair_list) {
+        let count = n * m;
+        let kind = agreed_lists::column_over(generator_list, n, 0, record::LAST_KIND);
+        let capacity = agreed_lists::column_over(generator_list, n, 1, energy::MOST_CAPACITY)
+            | agreed_lists::column_over(generator_list, n, 2, energy::MOST_CAPACITY);
+        let pair = agreed_lists::any_outside(pair_list, 0, count, 0, 1)
+            | agreed_lists::any_outside(pair_list, count, count, 0, record::MOST_LOSS);
+        let term = !terms_fit(rate, cycle, gone);
+        let later = lists::first(pair, 5, lists::first(term, 6, 0));
+        lists::first(kind, 3, lists::first(capacity, 4, later))
+    } else {
+        2
+    }
+}
+
+// ---- the record
+
+fn agreed_from(n: usize, list: &[u32]) -> record::Agreed
+    requires { ⌜ Threes (now list) n 0 ⌝ }
+    ensures { λ r. ⌜ r ≡ agreedFrom n (now (list .entry)) ⌝ }
+{
+    let kind = agreed_lists::column(list, n, 0);
+    let installed = agreed_lists::column(list, n, 1);
+    let contracted = agreed_lists::column(list, n, 2);
+    record::Agreed {
+        kind,
+        installed,
+        contracted,
+    }
+}
+
+// All links, then all losses.
+fn links_from(n: usize, m: usize, list: &[u32]) -> record::Links
+    requires { ⌜ (length (now list) ≡ 2 * (n * m)) × ((n ≤ mostGenerators) × (m ≤ mostConsumers)) ⌝ }
+    ensures { λ r. ⌜ r ≡ linksFrom n m (now (list .entry)) ⌝ }
+{
+    let link = agreed_lists::spread(list, 0, n, m);
+    let loss = agreed_lists::spread(list, n * m, n, m);
+    record::Links { link, loss }
+}
+
+fn first_schedule(n: usize, m: usize) -> record::Schedule
+    requires { ⌜ (n ≤ mostGenerators) × (m ≤ mostConsumers) ⌝ }
+    ensures { λ r. ⌜ r ≡ firstSchedule n m ⌝ }
+{
+    let kw = [0u64; 128];
+    let ones = [1u32; 128];
+    let rank = agreed_lists::spread(&ones, 0, n, m);
+    record::Schedule { kw, rank }
+}
+
+fn no_injection() -> record::Generators
+    ensures { λ r. ⌜ r ≡ storedGenerators (λ g. noInjection) ⌝ }
+{
+    let none = [0u64; 8];
+    record::Generators {
+        injected: none,
+        unaccounted: none,
+        lost: none,
+        setoff: none,
+        inadvertent: none,
+        charge: none,
+        drawn: none,
+        lapsed: none,
+        bank: none,
+        pending: none,
+    }
+}
+
+fn no_consumption() -> record::Consumers
+    ensures { λ r. ⌜ r ≡ storedConsumers (λ c. noConsumption) ⌝ }
+{
+    let none = [0u64; 16];
+    record::Consumers {
+        metered: none,
+        setoff: none,
+        shortfall: none,
+        drawn: none,
+        supplied: none,
+        outstanding: none,
+    }
+}
+
+fn zero_record() -> record::Record
+    ensures { λ r. ⌜ r ≡ zeros ⌝ }
+{
+    let none = [0u64; 8];
+    let link = [0u64; 128];
+    let loss = [0u64; 128];
+    let kw = [0u64; 128];
+    let rank = [0u64; 128];
+    let terms = record::Terms {
+        generators: 0,
+        consumers: 0,
+        rate: 0,
+        cycle: 0,
+    };
+    let counts = record::Counts {
+        gone: 0,
+        blocks: 0,
+        month: 0,
+    };
+    let agreed = record::Agreed {
+        kind: none,
+        installed: none,
+        contracted: none,
+    };
+    let links = record::Links { link, loss };
+    let schedule = record::Schedule { kw, rank };
+    let generators = no_injection();
+    let consumers = no_consumption();
+    record::Record {
+        terms,
+        counts,
+        agreed,
+        links,
+        schedule,
+        generators,
+        consumers,
+    }
+}
+
+fn opened_record(
+    n: usize,
+    m: usize,
+    rate: u32,
+    cycle: u32,
+    gone: u32,
+    generator_list: &[u32],
+    pair_list: &[u32],
+) -> record::Record
+    requires { ⌜ Permitted (asked n m rate cycle gone (now «generator_list») (now «pair_list»)) ⌝ }
+    ensures { λ r. ⌜ r ≡ stored (opened (asked n m rate cycle gone (now («generator_list» .entry)) (now («pair_list» .entry)))) ⌝ }
+{
+    let terms = record::Terms {
+        generators: n as u64,
+        consumers: m as u64,
+        rate: lists::wide(rate),
+        cycle: lists::wide(cycle),
+    };
+    let counts = record::Counts {
+        gone: lists::wide(gone),
+        blocks: 0,
+        month: 0,
+    };
+    let agreed = agreed_from(n, generator_list);
+    let links = links_from(n, m, pair_list);
+    let schedule = first_schedule(n, m);
+    let generators = no_injection();
+    let consumers = no_consumption();
+    record::Record {
+        terms,
+        counts,
+        agreed,
+        links,
+        schedule,
+        generators,
+        consumers,
+    }
+}
+
+pub fn opening(
+    generators: u32,
+    consumers: u32,
+    rate: u32,
+    cycle: u32,
+    gone: u32,
+    generator_list: &[u32],
+    pair_list: &[u32],
+) -> record::Answer
+    ensures { λ a. ⌜ Opened (asked generators consumers rate cycle gone (now («generator_list» .entry)) (now («pair_list» .entry))) (a .number) (a .after) ⌝ }
+{
+    let n = generators as usize;
+    let m = consumers as usize;
+    let number = opening_refusal(n, m, rate, cycle, gone, generator_list, pair_list);
+    if number == 0 {
+        let after = opened_record(n, m, rate, cycle, gone, generator_list, pair_list);
+        record::Answer { number: 0, after }
+    } else {
+        let after = zero_record();
+        record::Answer { number, after }
+    }
+}

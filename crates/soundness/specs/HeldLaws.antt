@@ -1,0 +1,173 @@
+-- What is read at a place of the bytes is the figure of the record that they hold. Assumes nothing.
+use Prim.Native.Nat.{ℕ, _+_, _*_, _≤_, _<_}
+use mathlib.Core.Path.{_≡_, refl, sym, ap, _∙_}
+use mathlib.Core.Bool.{Bool, true, false, _&&_, _||_}
+use mathlib.Core.List.{List}
+use native.Mathlib.Omega.{arith}
+use borrow.Author.Tests.{leb-true, eqb-true, ne-eqb}
+use lib.Dec.{eqb, leb, ltb}
+use lib.ListN.{getD}
+use Rattle.lists.specs.Sums.{sum, sum-none, sum-zero}
+use Rattle.lists.specs.Pairs.{cell}
+use Rattle.lists.specs.Tests.{and-left, and-right, all, all-at, all-same}
+use Rattle.codec.specs.Bytes.{decode}
+use Rattle.record.specs.Capped.{RowTotal}
+use Rattle.record.specs.Sound.{limit, agreedSound, pairSound, sound}
+use Rattle.record.specs.SoundTests.{countsTest, counts-fit, agreedTest, agreed-here, pairRead, pairTest, generatorRead, generatorTest, consumerRead, consumerTest, sound-by-parts, unsound-counts}
+use Rattle.record.specs.Stored.{figures}
+use Rattle.record.specs.Words.{recordOf}
+use Rattle.record.specs.declared.Record.{Record}
+use Rattle.record.specs.declared.Terms.{Terms}
+use Rattle.record.specs.declared.Counts.{Counts}
+use Rattle.record.specs.declared.GeneratorTerms.{GeneratorTerms}
+use Rattle.record.specs.declared.ConsumerTerms.{ConsumerTerms}
+use Rattle.layout_rules.specs.Places as places
+use Rattle.soundness.specs.Held.{held, pairHeld}
+
+-- the numbers of the bytes s
+abbrev at : List ℕ → ℕ → ℕ
+at s k = getD (decode 8 719 s) k 0
+
+-- the record with its terms and counts read apart
+parts-read : (s : List ℕ) {terms : Terms} {counts : Counts} → terms ≡ recordOf (decode 8 719 s) .terms → counts ≡ recordOf (decode 8 719 s) .counts →
+    record {
+      terms = terms;
+      counts = counts;
+      agreed = recordOf (decode 8 719 s) .agreed;
+      links = recordOf (decode 8 719 s) .links;
+      schedule = recordOf (decode 8 719 s) .schedule;
+      generators = recordOf (decode 8 719 s) .generators;
+      consumers = recordOf (decode 8 719 s) .consumers;
+    } ≡ recordOf (decode 8 719 s)
+parts-read s e f =
+    let r = recordOf (decode 8 719 s) in
+    λ i. record { terms = e i; counts = f i; agreed = r .agreed; links = r .links; schedule = r .schedule; generators = r .generators; consumers = r .consumers }
+
+-- a sound pair beyond the agreement has no kW
+none : (link loss k rank : ℕ) → pairSound false link loss k rank ≡ true → k ≡ 0
+unfolding pairSound
+none link loss k rank t =
+    let three : leb link 0 && leb loss 0 && (eqb link 1 || eqb k 0) ≡ true = and-left _ _ (and-left _ _ t) in
+    let low = leb-true link 0 (and-left _ _ (and-left (leb link 0 && leb loss 0) _ three)) in
+    let kw : eqb link 1 || eqb k 0 ≡ true = and-right (leb link 0 && leb loss 0) _ three in
+    eqb-true k 0 (rw (ne-eqb link 1 (λ q. omega (arith, low, q))) at kw)
+
+-- no row is wider than the agreement
+pub limit-high : (inside : Bool) (n : ℕ) → limit inside n ≤ n
+limit-high true n = omega arith
+limit-high false n = omega arith
+
+both-false : (x y : Bool) → (x && false) ≡ (y && false)
+both-false true true = refl
+both-false true false = refl
+both-false false true = refl
+both-false false false = refl
+
+module _ (s : List ℕ) where
+  pub kw-held : (i : ℕ) → i < 128 → at s (287 + i) ≡ getD (held s .schedule .kw) i 0
+  unfolding held
+  kw-held i h = sym (places.kw-place (decode 8 719 s) i h)
+
+  pub agreed-held : (G C g : ℕ) {kind installed contracted total : ℕ} → g < 8 →
+      kind ≡ at s (7 + g * 3) → installed ≡ at s (7 + g * 3 + 1) → contracted ≡ at s (7 + g * 3 + 2) → RowTotal (held s .schedule .kw) g C total →
+      agreedSound (ltb g G) kind installed contracted total ≡ agreedTest (held s .agreed) (held s .schedule .kw) G C g
+  unfolding held
+  agreed-held G C g h a b c t =
+      let ws = decode 8 719 s in
+      rw (a ∙ sym (places.kind-place ws g h), b ∙ sym (places.installed-place ws g h), c ∙ sym (places.contracted-place ws g h)) (agreed-here _ _ G C g h t)
+
+  pub pair-held : (inside : Bool) (k : ℕ) {link loss kw rank : ℕ} → k < 128 →
+      link ≡ at s (31 + k) → loss ≡ at s (159 + k) → kw ≡ at s (287 + k) → rank ≡ at s (415 + k) →
+      pairSound inside link loss kw rank ≡ pairHeld s inside k
+  unfolding pairHeld pairRead held
+  pair-held inside k h a b c d =
+      let ws = decode 8 719 s in
+      rw (a ∙ sym (places.link-place ws k h), b ∙ sym (places.loss-place ws k h), c ∙ sym (places.kw-place ws k h), d ∙ sym (places.rank-place ws k h))
+
+  pub generator-held : (g : ℕ) {x : GeneratorTerms} → g < 8 →
+      x ≡ record {
+        injected = at s (543 + g);
+        unaccounted = at s (543 + g + 8);
+        lost = at s (543 + g + 16);
+        setoff = at s (543 + g + 24);
+        inadvertent = at s (543 + g + 32);
+        charge = at s (543 + g + 40);
+        drawn = at s (543 + g + 48);
+        lapsed = at s (543 + g + 56);
+        bank = at s (543 + g + 64);
+        pending = at s (543 + g + 72);
+      } → x ≡ generatorRead (held s .generators) g
+  unfolding held
+  generator-held g h e =
+      let ws = decode 8 719 s in
+      e ∙ sym (λ i. record {
+        injected = places.generator-injected-place ws g h i;
+        unaccounted = places.generator-unaccounted-place ws g h i;
+        lost = places.generator-lost-place ws g h i;
+        setoff = places.generator-setoff-place ws g h i;
+        inadvertent = places.generator-inadvertent-place ws g h i;
+        charge = places.generator-charge-place ws g h i;
+        drawn = places.generator-drawn-place ws g h i;
+        lapsed = places.generator-lapsed-place ws g h i;
+        bank = places.generator-bank-place ws g h i;
+        pending = places.generator-pending-place ws g h i;
+      })
+
+  pub consumer-held : (c : ℕ) {x : ConsumerTerms} → c < 16 →
+      x ≡ record {
+        metered = at s (623 + c);
+        setoff = at s (623 + c + 16);
+        shortfall = at s (623 + c + 32);
+        drawn = at s (623 + c + 48);
+        supplied = at s (623 + c + 64);
+        outstanding = at s (623 + c + 80);
+      } → x ≡ consumerRead (held s .consumers) c
+  unfolding held
+  consumer-held c h e =
+      let ws = decode 8 719 s in
+      e ∙ sym (λ i. record {
+        metered = places.consumer-metered-place ws c h i;
+        setoff = places.consumer-setoff-place ws c h i;
+        shortfall = places.consumer-shortfall-place ws c h i;
+        drawn = places.consumer-drawn-place ws c h i;
+        supplied = places.consumer-supplied-place ws c h i;
+        outstanding = places.consumer-outstanding-place ws c h i;
+      })
+
+  -- Where every pair is sound, those beyond the agreement have no kW: the row of a generator beyond it need not be added up.
+  rows-within : (G C : ℕ) {a b : Bool} → a ≡ all 8 (λ g. agreedTest (held s .agreed) (held s .schedule .kw) G (limit (ltb g G) C) g) →
+      b ≡ all 8 (λ g. all 16 (pairTest (held s .links .link) (held s .links .loss) (held s .schedule .kw) (held s .schedule .rank) G C g)) → C ≤ 16 →
+      (a && b) ≡ (all 8 (agreedTest (held s .agreed) (held s .schedule .kw) G C) && b)
+  unfolding agreedTest pairTest
+  rows-within G C {a} {b} e f h = rw e (go b f)
+    where
+      kw : List ℕ
+      kw = held s .schedule .kw
+
+      same : (g : ℕ) → g < 8 → all 8 (λ g. all 16 (pairTest (held s .links .link) (held s .links .loss) kw (held s .schedule .rank) G C g)) ≡ true →
+          (t : Bool) → ltb g G ≡ t → agreedTest (held s .agreed) kw G (limit t C) g ≡ agreedTest (held s .agreed) kw G C g
+      same g l p true q = refl
+      same g l p false q =
+          let row = all-at 8 _ p g l in
+          let zero : (c : ℕ) → c < C → cell 8 16 kw g c ≡ 0 = λ c k. none _ _ _ _ (rw q at (all-at 16 _ row c (omega (arith, k, h)))) in
+          rw (sum-none (cell 8 16 kw g), sum-zero C (cell 8 16 kw g) zero)
+
+      go : (t : Bool) → t ≡ all 8 (λ g. all 16 (pairTest (held s .links .link) (held s .links .loss) kw (held s .schedule .rank) G C g)) →
+          (all 8 (λ g. agreedTest (held s .agreed) kw G (limit (ltb g G) C) g) && t) ≡ (all 8 (agreedTest (held s .agreed) kw G C) && t)
+      go false p = both-false (all 8 (λ g. agreedTest (held s .agreed) kw G (limit (ltb g G) C) g)) (all 8 (agreedTest (held s .agreed) kw G C))
+      go true p = ap (λ (x : Bool). x && true) (all-same 8 _ _ (λ g l. same g l (sym p) (ltb g G) refl))
+
+  -- the tests of the parts make up the test of the record, its terms and counts being read apart
+  pub sound-held : {terms : Terms} {counts : Counts} {a b c d : Bool} → terms ≡ recordOf (decode 8 719 s) .terms → counts ≡ recordOf (decode 8 719 s) .counts → countsTest terms counts ≡ true →
+      a ≡ all 8 (λ g. agreedTest (held s .agreed) (held s .schedule .kw) (terms .generators) (limit (ltb g (terms .generators)) (terms .consumers)) g) →
+      b ≡ all 8 (λ g. all 16 (pairTest (held s .links .link) (held s .links .loss) (held s .schedule .kw) (held s .schedule .rank) (terms .generators) (terms .consumers) g)) →
+      c ≡ all 8 (generatorTest (held s .generators) (terms .generators) (counts .blocks)) →
+      d ≡ all 16 (consumerTest (held s .consumers) (terms .consumers) (counts .blocks)) →
+      (a && b && c && d) ≡ sound (figures (recordOf (decode 8 719 s)))
+  unfolding held
+  sound-held {c = c} {d = d} e f h p q x y =
+      ap (λ (t : Bool). t && c && d) (rows-within _ _ p q (counts-fit _ _ h .consumers-fit)) ∙ sound-by-parts _ h refl q x y ∙ ap (λ (r : Record). sound (figures r)) (parts-read s e f)
+
+  pub unsound-held : {terms : Terms} {counts : Counts} → terms ≡ recordOf (decode 8 719 s) .terms → counts ≡ recordOf (decode 8 719 s) .counts → countsTest terms counts ≡ false →
+      false ≡ sound (figures (recordOf (decode 8 719 s)))
+  unsound-held e f h = unsound-counts _ (rw (e, f) at h)

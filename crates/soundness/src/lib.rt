@@ -1,0 +1,220 @@
+// The test of soundness on the record's bytes, each number read where it stands; crate record tests the single items.
+// Tests are joined by & and |, which do not branch.
+// Called by this repository's crates only: what a function requires, its callers meet.
+ghost use mathlib.Core.Path.{_≡_};
+ghost use mathlib.Core.Bool.{true, false};
+ghost use Prim.Native.Nat.{_+_, _*_, _<_, _≤_};
+ghost use lib.Dec.{ltb};
+ghost use lib.ListN.{length};
+ghost use Rattle.lists.specs.Tests.{all};
+ghost use Rattle.energy.specs.Limits.{mostGenerators, mostConsumers, mostUnitBlocks};
+ghost use Rattle.codec.specs.Bytes.{decode};
+ghost use Rattle.record.specs.Words.{recordOf};
+ghost use Rattle.record.specs.Stored.{figures};
+ghost use Rattle.record.specs.Sound.{limit, sound};
+ghost use Rattle.record.specs.Capped.{RowTotal};
+ghost use Rattle.record.specs.SoundTests.{agreedTest, pairTest, generatorRead, generatorTest, consumerRead, consumerTest};
+ghost use Rattle.soundness.specs.Held.{held, pairHeld};
+use record::ConsumerTerms;
+use record::GeneratorTerms;
+use record::Record;
+
+// The kW of generator g for the first n consumers, each capped.
+fn row_total(s: &[u8], g: usize, n: usize) -> u64
+    requires { ⌜ (length (now s) ≡ 5752) × ((g < 8) × (n ≤ 16)) ⌝ }
+    ensures { λ r. ⌜ RowTotal (held (now (s .entry)) .schedule .kw) g n r ⌝ }
+{
+    let mut total: u64 = 0;
+    let mut c: usize = 0;
+    while c < n {
+        total = total + record::capped(loading::number_at(s, layout_rules::KW + (g * 16 + c)));
+        c += 1;
+    }
+    total
+}
+
+fn columns_within(inside: bool, m: usize) -> usize
+    ensures { λ r. ⌜ r ≡ limit inside m ⌝ }
+{
+    if inside { m } else { 0 }
+}
+
+// n generators and m consumers, here and below. The row of a generator beyond the agreement is not added up: pairs_sound finds it to be zeros.
+fn agreed_at(s: &[u8], g: usize, n: usize, m: usize) -> bool
+    requires { ⌜ (length (now s) ≡ 5752) × ((g < 8) × (m ≤ mostConsumers)) ⌝ }
+    ensures { λ r. ⌜ r ≡ agreedTest (held (now (s .entry)) .agreed) (held (now (s .entry)) .schedule .kw) n (limit (ltb g n) m) g ⌝ }
+{
+    let columns = columns_within(g < n, m);
+    let total = row_total(s, g, columns);
+    let k = layout_rules::AGREED + g * 3;
+    record::agreed_sound(
+        g < n,
+        loading::number_at(s, k),
+        loading::number_at(s, k + 1),
+        loading::number_at(s, k + 2),
+        total,
+    )
+}
+
+fn agreed_all_sound(s: &[u8], n: usize, m: usize) -> bool
+    requires { ⌜ (length (now s) ≡ 5752) × (m ≤ mostConsumers) ⌝ }
+    ensures { λ r. ⌜ r ≡ all 8 (λ g. agreedTest (held (now (s .entry)) .agreed) (held (now (s .entry)) .schedule .kw) n (limit (ltb g n) m) g) ⌝ }
+{
+    let mut ok = true;
+    let mut g: usize = 0;
+    while g < 8 {
+        ok = ok & agreed_at(s, g, n, m);
+        g += 1;
+    }
+    ok
+}
+
+// Place k of the pair lists, within the agreement.
+fn pair_within(s: &[u8], k: usize) -> bool
+    requires { ⌜ (length (now s) ≡ 5752) × (k < 128) ⌝ }
+    ensures { λ r. ⌜ r ≡ pairHeld (now (s .entry)) true k ⌝ }
+{
+    record::pair_sound(
+        true,
+        loading::number_at(s, layout_rules::LINK + k),
+        loading::number_at(s, layout_rules::LOSS + k),
+        loading::number_at(s, layout_rules::KW + k),
+        loading::number_at(s, layout_rules::RANK + k),
+    )
+}
+
+// n places of the pair lists beyond the agreement: all 0. The numbers are joined by |, which goes through several at a time.
+fn beyond_sound(s: &[u8], from: usize, n: usize) -> bool
+    requires { ⌜ (length (now s) ≡ 5752) × (from + n ≤ 128) ⌝ }
+    ensures { λ r. ⌜ r ≡ all n (λ i. pairHeld (now (s .entry)) false (from + i)) ⌝ }
+{
+    let mut bits: u64 = 0;
+    let mut i: usize = 0;
+    while i < n {
+        let k = from + i;
+        bits = bits
+            | loading::number_at(s, layout_rules::LINK + k)
+            | loading::number_at(s, layout_rules::LOSS + k)
+            | loading::number_at(s, layout_rules::KW + k)
+            | loading::number_at(s, layout_rules::RANK + k);
+        i += 1;
+    }
+    bits == 0
+}
+
+// Row g within the agreement, 16 places of which m are within it.
+fn row_sound(s: &[u8], g: usize, m: usize) -> bool
+    requires { ⌜ (length (now s) ≡ 5752) × ((g < 8) × (m ≤ 16)) ⌝ }
+    ensures { λ r. ⌜ r ≡ all 16 (λ c. pairHeld (now (s .entry)) (ltb c m) (g * 16 + c)) ⌝ }
+{
+    let start = g * 16;
+    let mut ok = true;
+    let mut c: usize = 0;
+    while c < m {
+        ok = ok & pair_within(s, start + c);
+        c += 1;
+    }
+    ok & beyond_sound(s, start + m, 16 - m)
+}
+
+fn pairs_sound(s: &[u8], n: usize, m: usize) -> bool
+    requires { ⌜ (length (now s) ≡ 5752) × ((n ≤ mostGenerators) × (m ≤ mostConsumers)) ⌝ }
+    ensures { λ r. ⌜ r ≡ all 8 (λ g. all 16 (pairTest (held (now (s .entry)) .links .link) (held (now (s .entry)) .links .loss) (held (now (s .entry)) .schedule .kw) (held (now (s .entry)) .schedule .rank) n m g)) ⌝ }
+{
+    let mut ok = true;
+    let mut g: usize = 0;
+    while g < n {
+        ok = ok & row_sound(s, g, m);
+        g += 1;
+    }
+    ok & beyond_sound(s, n * 16, 128 - n * 16)
+}
+
+fn generator_terms(s: &[u8], g: usize) -> GeneratorTerms
+    requires { ⌜ (length (now s) ≡ 5752) × (g < 8) ⌝ }
+    ensures { λ x. ⌜ x ≡ generatorRead (held (now (s .entry)) .generators) g ⌝ }
+{
+    let k = layout_rules::GENERATORS + g;
+    GeneratorTerms {
+        injected: loading::number_at(s, k),
+        unaccounted: loading::number_at(s, k + 8),
+        lost: loading::number_at(s, k + 16),
+        setoff: loading::number_at(s, k + 24),
+        inadvertent: loading::number_at(s, k + 32),
+        charge: loading::number_at(s, k + 40),
+        drawn: loading::number_at(s, k + 48),
+        lapsed: loading::number_at(s, k + 56),
+        bank: loading::number_at(s, k + 64),
+        pending: loading::number_at(s, k + 72),
+    }
+}
+
+fn generators_sound(s: &[u8], n: usize, blocks: u64) -> bool
+    requires { ⌜ (length (now s) ≡ 5752) × (blocks ≤ mostUnitBlocks) ⌝ }
+    ensures { λ r. ⌜ r ≡ all 8 (generatorTest (held (now (s .entry)) .generators) n blocks) ⌝ }
+{
+    let mut ok = true;
+    let mut g: usize = 0;
+    while g < 8 {
+        ok = ok & record::generator_sound(blocks, g < n, generator_terms(s, g));
+        g += 1;
+    }
+    ok
+}
+
+fn consumer_terms(s: &[u8], c: usize) -> ConsumerTerms
+    requires { ⌜ (length (now s) ≡ 5752) × (c < 16) ⌝ }
+    ensures { λ x. ⌜ x ≡ consumerRead (held (now (s .entry)) .consumers) c ⌝ }
+{
+    let k = layout_rules::CONSUMERS + c;
+    ConsumerTerms {
+        metered: loading::number_at(s, k),
+        setoff: loading::number_at(s, k + 16),
+        shortfall: loading::number_at(s, k + 32),
+        drawn: loading::number_at(s, k + 48),
+        supplied: loading::number_at(s, k + 64),
+        outstanding: loading::number_at(s, k + 80),
+    }
+}
+
+fn consumers_sound(s: &[u8], m: usize, blocks: u64) -> bool
+    requires { ⌜ (length (now s) ≡ 5752) × (blocks ≤ mostUnitBlocks) ⌝ }
+    ensures { λ r. ⌜ r ≡ all 16 (consumerTest (held (now (s .entry)) .consumers) m blocks) ⌝ }
+{
+    let mut ok = true;
+    let mut c: usize = 0;
+    while c < 16 {
+        ok = ok & record::consumer_sound(blocks, c < m, consumer_terms(s, c));
+        c += 1;
+    }
+    ok
+}
+
+// The test of the record that the bytes hold.
+pub fn is_sound(s: &[u8]) -> bool
+    requires { ⌜ length (now s) ≡ 5752 ⌝ }
+    ensures { λ b. ⌜ b ≡ sound (figures (recordOf (decode 8 719 (now (s .entry))))) ⌝ }
+{
+    let terms = loading::load_terms(s);
+    let counts = loading::load_counts(s);
+    if record::counts_sound(terms, counts) {
+        let n = terms.generators as usize;
+        let m = terms.consumers as usize;
+        let blocks = counts.blocks;
+        agreed_all_sound(s, n, m)
+            & pairs_sound(s, n, m)
+            & generators_sound(s, n, blocks)
+            & consumers_sound(s, m, blocks)
+    } else {
+        false
+    }
+}
+
+// The same of a struct, through its bytes.
+pub fn is_sound_record(r: Record) -> bool
+    ensures { λ b. ⌜ b ≡ sound (figures r) ⌝ }
+{
+    let mut bytes = [0u8; 5752];
+    storing::store(r, &mut bytes);
+    is_sound(&bytes)
+}

@@ -1,0 +1,3 @@
+pub mod Values
+pub mod Scan
+pub mod ScanLaws

@@ -1,6 +1,0 @@
-pub mod Wheeling
-pub mod Reading
-pub mod ReadingLaws
-pub mod WheelingLaws
-pub mod ByRule
-pub mod PartsLaws

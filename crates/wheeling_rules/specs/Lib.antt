@@ -1,0 +1,5 @@
+pub mod Wheeling
+pub mod Reading
+pub mod ReadingLaws
+pub mod WheelingLaws
+pub mod ByRule

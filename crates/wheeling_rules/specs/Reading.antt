@@ -1,0 +1,46 @@
+-- What the code hands to the calls on numbers. Assumes nothing.
+use Prim.Native.Nat.{ℕ, _*_, _≤_, _<_}
+use mathlib.Core.List.{List}
+use mathlib.Core.Logic.{_⊎_}
+use mathlib.Core.Path.{_≡_}
+use lib.ListN.{length, take}
+use Rattle.record.specs.Words.{words}
+use Rattle.record.specs.declared.Answer.{Answer}
+use Rattle.layout_rules.specs.OnBytes.{bytesAfter}
+use Rattle.wheeling_rules.specs.Wheeling.{numbersIn}
+
+-- the same, or both k or more: no call tells them apart where it takes fewer than k
+abbrev pub AlikeSize : (k n m : ℕ) → Type 0
+AlikeSize k n m = (n ≡ m) ⊎ ((k ≤ n) × (k ≤ m))
+
+abbrev pub Alike : (k : ℕ) (xs ys : List ℕ) → Type 0
+Alike k xs ys = (xs ≡ ys) ⊎ ((k ≤ length xs) × (k ≤ length ys))
+
+-- the first n of the k numbers out stand for the numbers ys
+pub record Taken (ys : List ℕ) (k n : ℕ) (out : List ℕ) : Type 0 where
+  pub within : n ≤ k
+  pub size : length out ≡ k
+  pub alike : Alike k (take n out) ys
+
+-- the output's bytes are n numbers, where n is less than k
+abbrev pub Fits : (k n : ℕ) (lent : List ℕ) → Type 0
+Fits k n lent = n < k → length lent ≡ 8 * n
+
+pub record Room (lent : List ℕ) (k n : ℕ) : Type 0 where
+  pub within : n ≤ k
+  pub fits : Fits k n lent
+  pub alike : AlikeSize k n (length (numbersIn 8 lent))
+
+-- an accepted call's record is stored
+pub record Kept (a : Answer) (bytes : List ℕ) (number : ℕ) (bytes′ : List ℕ) : Type 0 where
+  pub number-is : number ≡ a .number
+  pub record-is : bytes′ ≡ bytesAfter number (words (a .after)) bytes
+
+-- a call was made on the record that the bytes hold: it gave an answer, which is kept
+abbrev pub Made : (Answer → Type 0) → (bytes : List ℕ) (number : ℕ) (bytes′ : List ℕ) → Type 0
+Made ensured bytes number bytes′ = (a : Answer) × (ensured a × Kept a bytes number bytes′)
+
+-- and its output written
+pub record Written (refusal : ℕ) (out lent : List ℕ) (number : ℕ) (lent′ : List ℕ) : Type 0 where
+  pub number-is : number ≡ refusal
+  pub output-is : lent′ ≡ bytesAfter refusal out lent
