@@ -78,14 +78,14 @@ FAULTS = {
          "first(counts.blocks < record::MOST_UNIT_BLOCKS, "
          "lists::first(record::MOST_MONTH_BLOCKS <= counts.month, 11, 0), unit_full)"),
     "block: month blocks not raised":
-        ("block_totals/src/lib.rt", "storing::add_at(s, layout_rules::COUNTS + 2, 1);",
-         "storing::add_at(s, layout_rules::COUNTS + 2, 0);"),
+        ("block_totals/src/lib.rt", "storing::add_at(s, MONTH, 1);",
+         "storing::add_at(s, MONTH, 0);"),
     "block: metered by remainder":
-        ("block_totals/src/lib.rt", "raise_readings(s, layout_rules::CONSUMERS, exit);",
-         "raise_numbers(s, layout_rules::CONSUMERS, out, 4 * size + n, m);"),
+        ("block_totals/src/lib.rt", "raise_readings(s, METERED, exit);",
+         "raise_numbers(s, METERED, out, 4 * size + n, m);"),
     "block: shortfall listed as underdrawn":
-        ("block_settlement/src/lib.rt", "put_column(&mut out[third..fourth], n, m, c, shortfall);",
-         "put_column(&mut out[third..fourth], n, m, c, underdrawn);"),
+        ("block_settlement/src/lib.rt", "put_column_at(out, 3 * size, n, m, c, shortfall);",
+         "put_column_at(out, 3 * size, n, m, c, underdrawn);"),
     "block: all counted where nothing is scheduled":
         ("block_counting/src/lib.rt", "    if scheduled.0 == 0 {\n        return 0;",
          "    if scheduled.0 == 0 {\n        return entry;"),

@@ -1,11 +1,10 @@
-// Adds, sums and writes out the lists of a record: lists of 8 or 16 numbers, and pair lists of 8 rows of 16.
+// Adds and writes out the lists of a record: lists of 8 or 16 numbers, and pair lists of 8 rows of 16.
 ghost use mathlib.Core.Path.{_≡_};
 ghost use Prim.Native.Nat.{_+_, _*_, _<_, _≤_};
 ghost use lib.ListN.{length, getD};
 ghost use Rattle.lists.specs.Tables.{table};
-ghost use Rattle.lists.specs.Sums.{sum};
 ghost use Rattle.lists.specs.Pairs.{place, cell, pairs};
-ghost use Rattle.arrays.specs.Bounds.{Moderate, Room};
+ghost use Rattle.arrays.specs.Bounds.{Room};
 ghost use Rattle.arrays.specs.Put.{Put};
 ghost use Rattle.arrays.specs.Columns.{ColumnPut};
 
@@ -35,61 +34,8 @@ pub fn add16(a: [u64; 16], b: [u64; 16]) -> [u64; 16]
     out
 }
 
-fn row_sum(m: &[u64; 128], g: usize, w: usize) -> u64
-    requires { ⌜ (g < 8) × ((w ≤ 16) × (Moderate (now m))) ⌝ }
-    ensures { λ r. ⌜ r ≡ sum w (λ c. cell 8 16 (now (m .entry)) g c) ⌝ }
-{
-    let mut s: u64 = 0;
-    let mut c: usize = 0;
-    while c < w {
-        s = s + m[g * 16 + c];
-        c += 1;
-    }
-    s
-}
-
-// The sums of the columns over g rows, with row g added: a row lies in one piece, a column does not.
-fn add_row(sums: &mut [u64; 16], m: &[u64; 128], g: usize)
-    requires { ⌜ (g < 8) × (Moderate (now m) × (now sums ≡ table 16 (λ c. sum g (λ h. cell 8 16 (now m) h c)))) ⌝ }
-    ensures { λ r. ⌜ now (sums .exit) ≡ table 16 (λ c. sum (g + 1) (λ h. cell 8 16 (now (m .entry)) h c)) ⌝ }
-{
-    let mut c: usize = 0;
-    while c < 16 {
-        sums[c] = sums[c] + m[g * 16 + c];
-        c += 1;
-    }
-}
-
-// Each row summed over its first w numbers.
-pub fn row_sums(m: &[u64; 128], w: usize) -> [u64; 8]
-    requires { ⌜ (w ≤ 16) × (Moderate (now m)) ⌝ }
-    ensures { λ r. ⌜ r ≡ table 8 (λ g. sum w (λ c. cell 8 16 (now (m .entry)) g c)) ⌝ }
-{
-    let mut out = [0u64; 8];
-    let mut g: usize = 0;
-    while g < 8 {
-        out[g] = row_sum(m, g, w);
-        g += 1;
-    }
-    out
-}
-
-// Each column summed over the first n rows.
-pub fn column_sums(m: &[u64; 128], n: usize) -> [u64; 16]
-    requires { ⌜ (n ≤ 8) × (Moderate (now m)) ⌝ }
-    ensures { λ r. ⌜ r ≡ table 16 (λ c. sum n (λ g. cell 8 16 (now (m .entry)) g c)) ⌝ }
-{
-    let mut out = [0u64; 16];
-    let mut g: usize = 0;
-    while g < n {
-        add_row(&mut out, m, g);
-        g += 1;
-    }
-    out
-}
-
 // Fills `out` with the first numbers of `xs`.
-pub fn write_list(out: &mut [u64], xs: &[u64])
+fn write_list(out: &mut [u64], xs: &[u64])
     requires { ⌜ length (now out) ≤ length (now xs) ⌝ }
     ensures { λ r. ⌜ now (out .exit) ≡ table (length (now (out .entry))) (λ i. getD (now (xs .entry)) i 0) ⌝ }
 {
@@ -102,7 +48,7 @@ pub fn write_list(out: &mut [u64], xs: &[u64])
 }
 
 // Writes the first w numbers of each of the first n rows, row by row.
-pub fn write_pairs(out: &mut [u64], m: &[u64; 128], n: usize, w: usize)
+fn write_pairs(out: &mut [u64], m: &[u64; 128], n: usize, w: usize)
     requires { ⌜ (length (now out) ≡ n * w) × ((n ≤ 8) × (w ≤ 16)) ⌝ }
     ensures { λ r. ⌜ now (out .exit) ≡ pairs n w (cell 8 16 (now (m .entry))) ⌝ }
 {

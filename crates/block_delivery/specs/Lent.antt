@@ -4,15 +4,8 @@ use mathlib.Core.List.{List}
 use mathlib.Core.Path.{_≡_}
 use lib.ListN.{length}
 use Rattle.lists.specs.Pairs.{place}
-use Rattle.codec.specs.Bytes.{decode}
-use Rattle.delivery.specs.Plan.{Plan}
 use Rattle.delivery.specs.Deliverable.{Deliverable}
-use Rattle.record.specs.Words.{recordOf}
-use Rattle.record.specs.Stored.{planOf}
-
--- the plan of the record in the bytes
-abbrev pub planIn : List ℕ → Plan
-planIn s = planOf (recordOf (decode 8 719 s))
+use Rattle.layout_rules.specs.OnBytes.{planIn}
 
 abbrev pub entriesIn : List ℕ → List ℕ → ℕ → ℕ
 entriesIn s entry = place (planIn s .G) entry

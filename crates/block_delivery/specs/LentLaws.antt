@@ -9,7 +9,7 @@ use Rattle.codec.specs.Bytes.{decode}
 use Rattle.record.specs.Words.{recordOf}
 use Rattle.record.specs.Stored.{planOf}
 use Rattle.layout_rules.specs.Places.{kind-place, loss-place, kw-place}
-use Rattle.block_delivery.specs.Lent.{planIn}
+use Rattle.layout_rules.specs.OnBytes.{planIn}
 
 module _ (s : List ℕ) where
   abbrev at : ℕ → ℕ

@@ -8,7 +8,7 @@ use Rattle.energy.specs.Limits.{mostGenerators, mostConsumers}
 use Rattle.delivery.specs.Plan.{Plan}
 use Rattle.delivery.specs.Delivery.{partOf}
 use Rattle.block_pair.specs.OnePair.{PairReady}
-use Rattle.block_delivery.specs.Lent.{planIn}
+use Rattle.layout_rules.specs.OnBytes.{planIn}
 
 -- its kind, its kW, and its energy as rules 1 and 2 share it for the reading e
 pub record RowOf (p : Plan) (g e kind : ℕ) (row parts : List ℕ) : Type 0 where

@@ -7,7 +7,8 @@ ghost use lib.ListN.{length, getD};
 ghost use Rattle.lists.specs.Tables.{table};
 ghost use Rattle.energy.specs.Limits.{mostCapacity};
 ghost use Rattle.delivery.specs.DeliveredIn.{DeliveredIn};
-ghost use Rattle.block_delivery.specs.Lent.{planIn, entriesIn, Ready};
+ghost use Rattle.layout_rules.specs.OnBytes.{planIn};
+ghost use Rattle.block_delivery.specs.Lent.{entriesIn, Ready};
 ghost use Rattle.block_delivery.specs.Rows.{RowReady, RowOf};
 ghost use Rattle.block_delivery.specs.Filling.{Filled};
 

@@ -4,14 +4,8 @@ use mathlib.Core.Path.{_≡_}
 use mathlib.Core.List.{List}
 use lib.ListN.{length}
 use Rattle.lists.specs.Pairs.{place}
+use Rattle.layout_rules.specs.OnBytes.{planIn}
 use Rattle.energy.specs.Limits.{mostRank, mostGenerators, mostConsumers}
-use Rattle.codec.specs.Bytes.{decode}
-use Rattle.delivery.specs.Plan.{Plan}
-use Rattle.record.specs.Words.{recordOf}
-use Rattle.record.specs.Stored.{planOf}
-
-abbrev pub planIn : List ℕ → Plan
-planIn s = planOf (recordOf (decode 8 719 s))
 
 abbrev pub exitsIn : List ℕ → List ℕ → ℕ → ℕ
 exitsIn s exit = place (planIn s .C) exit

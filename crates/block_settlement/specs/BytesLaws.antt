@@ -1,5 +1,5 @@
 -- The ranks of one consumer, read from the record's bytes. Assumes nothing.
-use Prim.Native.Nat.{ℕ, _+_, _*_, _≤_, _<_}
+use Prim.Native.Nat.{ℕ, _+_, _*_, _<_}
 use mathlib.Core.Path.{_≡_, ap, sym, _∙_}
 use mathlib.Core.List.{List}
 use native.Mathlib.Omega.{arith}
@@ -14,7 +14,8 @@ use Rattle.delivery.specs.Plan.{order}
 use Rattle.record.specs.Words.{recordOf}
 use Rattle.record.specs.Stored.{planOf}
 use Rattle.layout_rules.specs.Places.{rank-place}
-use Rattle.block_settlement.specs.Bytes.{planIn, Ranked}
+use Rattle.layout_rules.specs.OnBytes.{planIn}
+use Rattle.block_settlement.specs.Bytes.{Ranked}
 
 pub rank-at : (s : List ℕ) (g c : ℕ) → g < 8 → c < 16 → getD (decode 8 719 s) (415 + c + g * 16) 0 ≡ planIn s .rank g c
 unfolding planOf

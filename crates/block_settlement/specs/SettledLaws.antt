@@ -1,11 +1,11 @@
 -- From what rules 1 to 4 leave to a block's output, consumer by consumer. Assumes nothing.
 use Prim.Native.Nat.{ℕ, _+_, _-_, _*_, _≤_, _<_}
-use mathlib.Core.Path.{_≡_, ap, sym, _∙_}
+use mathlib.Core.Path.{_≡_, ap, _∙_}
 use mathlib.Core.List.{List}
 use mathlib.Core.Logic.{_⊎_, ⊎-elim}
 use native.Mathlib.Omega.{arith}
 use native.Mathlib.Nat.{eq-or-lt-of-le}
-use lib.ListN.{length, getD, set, length-set}
+use lib.ListN.{length, getD, length-set}
 use lib.Seq.{getD-set-same, getD-set-other}
 use Rattle.lists.specs.PairsLaws.{cell-index}
 use Rattle.order.specs.Arrays.{upto}
@@ -18,11 +18,11 @@ use Rattle.delivery.specs.Delivery.{delivered, atExit}
 use Rattle.delivery.specs.DeliveredIn.{DeliveredIn}
 use Rattle.settlement.specs.Settlement.{setOff, afterSetOff, underdrawn, shortfall, remainder, blockOutput}
 use Rattle.settlement.specs.Places.{output-all}
-use Rattle.block_settlement.specs.Columns.{ColumnAt}
+use Rattle.block_settlement.specs.Columns.{ColumnGot}
 use Rattle.block_settlement.specs.Settles.{Settles, settles}
 use Rattle.block_settlement.specs.SettledTo.{SettledTo, ConsumerPut}
 
--- which list each place of the output belongs to, and so which of the puts it passes through
+-- What the puts leave at each place of the output: a list's own put, and what was there where no put is.
 module _ {n m c : ℕ} {taken kept short : List ℕ} {rest : ℕ} {out out′ : List ℕ} (h : ConsumerPut n m c taken kept short rest out out′) where
   abbrev left-at : ℕ
   left-at = 4 * (n * m) + n + c
@@ -87,7 +87,7 @@ module _ (p : Plan) (E R : ℕ → ℕ) where
         left-is = λ c l. h .remainder-is c l (omega arith);
       })
 
-  -- one consumer more
+  -- one consumer more, of whom the first settlement is rule 5 and the second rule 7
   module _ {c r left rest : ℕ} {taken kept short gone out out′ : List ℕ} (h : SettledTo p E R c out) (within : c < p .C) (read : r ≡ R c)
       (first : Settles (p .G) (order p c) (λ g. delivered p g (E g) c) r taken kept left)
       (second : Settles (p .G) (order p c) (λ g. atExit p g (E g) c - delivered p g (E g) c) left short gone rest)
@@ -157,18 +157,18 @@ module _ (p : Plan) (E R : ℕ → ℕ) where
         }
 
 -- the same from the arrays that the code settles in: what consumer c's column of the two lists has, in the order that a holds
-pub consumer-settled : {p : Plan} {E R : ℕ → ℕ} {n m c r left rest : ℕ} {taken kept short gone out out′ : List ℕ} (a has gap : List ℕ) → n ≡ p .G → m ≡ p .C → n ≤ 8 → c < m → r ≡ R c →
-    upto a n ≡ order p c → ((g : ℕ) → g < n → getD has g 0 ≡ getD out (2 * (n * m) + (g * m + c)) 0) → settledIn taken kept left ≡ settled (upto a n) has r →
-    ((g : ℕ) → g < n → getD gap g 0 ≡ getD out (3 * (n * m) + (g * m + c)) 0) → settledIn short gone rest ≡ settled (upto a n) gap left →
+pub consumer-settled : {p : Plan} {E R : ℕ → ℕ} {n m c r left rest : ℕ} {taken kept short gone out out′ : List ℕ} {has gap : List ℕ} (a : List ℕ) → n ≡ p .G → m ≡ p .C → n ≤ 8 → c < m → r ≡ R c →
+    upto a n ≡ order p c → ColumnGot n m (2 * (n * m)) c out has → settledIn taken kept left ≡ settled (upto a n) has r →
+    ColumnGot n m (3 * (n * m)) c out gap → settledIn short gone rest ≡ settled (upto a n) gap left →
     ConsumerPut n m c taken kept short rest out out′ → SettledTo p E R c out → SettledTo p E R (c + 1) out′
 unfolding order
-consumer-settled {p} {E} {R} {n} {m} {c} a has gap en em few within read turns has-is first gap-is second put h =
+consumer-settled {p} {E} {R} {n} {m} {c} {has = has} {gap = gap} a en em few within read turns has-is first gap-is second put h =
     let within′ : c < p .C = omega (arith, em) in
     let few′ : p .G ≤ 8 = omega (arith, en) in
     let below = order-below (λ g. p .rank g c) (p .G) in
     settled-step p E R h within′ read
     (settles (λ g. delivered p g (E g) c) has few′ below
-    (λ g l. (rw (en, em) at (has-is g (omega (arith, en)))) ∙ h .delivered-is g c l within′ (omega arith)) (rw turns at first))
+    (λ g l. (rw (en, em) at (has-is .at g (omega (arith, en)))) ∙ h .delivered-is g c l within′ (omega arith)) (rw turns at first))
     (settles (λ g. atExit p g (E g) c - delivered p g (E g) c) gap few′ below
-    (λ g l. (rw (en, em) at (gap-is g (omega (arith, en)))) ∙ h .gap-is g c l within′ (omega arith)) (rw turns at second))
+    (λ g l. (rw (en, em) at (gap-is .at g (omega (arith, en)))) ∙ h .gap-is g c l within′ (omega arith)) (rw turns at second))
     (rw (en, em) at put)

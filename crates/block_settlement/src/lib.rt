@@ -1,39 +1,55 @@
-// Rules 5 to 7 of a block, consumer by consumer, in the slice of its output.
+// Rules 5 to 7 of a block, consumer by consumer, in the slice of its output. Called by this repository's crates only: what a
+// function requires, its callers meet.
 ghost use mathlib.Core.Path.{_≡_};
 ghost use Prim.Native.Nat.{ℕ, _+_, _*_, _<_, _≤_};
 ghost use lib.ListN.{length};
 ghost use Rattle.lists.specs.Tables.{table};
-ghost use Rattle.lists.specs.Pairs.{cell};
 ghost use Rattle.delivery.specs.DeliveredIn.{DeliveredIn};
 ghost use Rattle.settlement.specs.Settlement.{blockOutput};
-ghost use Rattle.block_settlement.specs.Bytes.{planIn, exitsIn, Ranked};
-ghost use Rattle.block_settlement.specs.Columns.{ColumnPut};
+ghost use Rattle.layout_rules.specs.OnBytes.{planIn};
+ghost use Rattle.block_settlement.specs.Bytes.{exitsIn, Ranked};
+ghost use Rattle.block_settlement.specs.Columns.{ColumnGot, ColumnPut, ColumnAt};
 ghost use Rattle.block_settlement.specs.SettledTo.{SettledTo, ConsumerPut};
 
-// Column c of a list of n rows of w numbers.
-fn column(list: &[u64], n: usize, w: usize, c: usize) -> [u64; 8]
-    requires { ⌜ (length (now list) ≡ n * w) × ((n ≤ 8) × ((w ≤ 16) × (c < w))) ⌝ }
-    ensures { λ r. ⌜ r ≡ table 8 (λ g. cell n w (now (list .entry)) g c) ⌝ }
+// Reads column c of a list of n rows of m numbers into an array, which is lent so that it is not copied.
+fn get_column(list: &[u64], n: usize, m: usize, c: usize, xs: &mut [u64; 8])
+    requires { ⌜ (length (now list) ≡ n * m) × ((n ≤ 8) × ((m ≤ 16) × ((c < m) × (length (now xs) ≡ 8)))) ⌝ }
+    ensures { λ _. ⌜ ColumnGot n m 0 c (now (list .entry)) (now (xs .exit)) ⌝ }
 {
-    let mut out = [0u64; 8];
     let mut g: usize = 0;
     while g < n {
-        out[g] = list[g * w + c];
+        xs[g] = list[g * m + c];
         g += 1;
     }
-    out
 }
 
 // Puts a number for each of the n rows into column c.
-fn put_column(list: &mut [u64], n: usize, w: usize, c: usize, xs: &[u64; 8])
-    requires { ⌜ (length (now list) ≡ n * w) × ((n ≤ 8) × ((w ≤ 16) × (c < w))) ⌝ }
-    ensures { λ _. ⌜ ColumnPut n w (now (list .entry)) c (now (xs .entry)) n (now (list .exit)) ⌝ }
+fn put_column(list: &mut [u64], n: usize, m: usize, c: usize, xs: &[u64; 8])
+    requires { ⌜ (length (now list) ≡ n * m) × ((n ≤ 8) × ((m ≤ 16) × (c < m))) ⌝ }
+    ensures { λ _. ⌜ ColumnPut n m (now (list .entry)) c (now (xs .entry)) n (now (list .exit)) ⌝ }
 {
     let mut g: usize = 0;
     while g < n {
-        list[g * w + c] = xs[g];
+        list[g * m + c] = xs[g];
         g += 1;
     }
+}
+
+// The same two where the list is a stretch of the output, which starts at place `from`.
+fn get_column_at(out: &[u64], from: usize, n: usize, m: usize, c: usize, xs: &mut [u64; 8])
+    requires { ⌜ (from + n * m ≤ length (now out)) × ((n ≤ 8) × ((m ≤ 16) × ((c < m) × (length (now xs) ≡ 8)))) ⌝ }
+    ensures { λ _. ⌜ ColumnGot n m from c (now (out .entry)) (now (xs .exit)) ⌝ }
+{
+    let to = from + n * m;
+    get_column(&out[from..to], n, m, c, xs);
+}
+
+fn put_column_at(out: &mut [u64], from: usize, n: usize, m: usize, c: usize, xs: &[u64; 8])
+    requires { ⌜ (from + n * m ≤ length (now out)) × ((n ≤ 8) × ((m ≤ 16) × (c < m))) ⌝ }
+    ensures { λ _. ⌜ ColumnAt n m from c (now (xs .entry)) (now (out .entry)) (now (out .exit)) ⌝ }
+{
+    let to = from + n * m;
+    put_column(&mut out[from..to], n, m, c, xs);
 }
 
 // The ranks of the generators for consumer c, read where they stand.
@@ -51,7 +67,7 @@ fn ranks_of(s: &[u8], c: usize) -> [u64; 8]
     ranks
 }
 
-// Puts the figures of consumer c where the output has them.
+// Puts the figures of consumer c where the output has them: a column of each of three lists, and a place.
 fn put_settled(
     out: &mut [u64],
     n: usize,
@@ -66,13 +82,10 @@ fn put_settled(
     ensures { λ _. ⌜ ConsumerPut n m c (now (setoff .entry)) (now (underdrawn .entry)) (now (shortfall .entry)) remainder (now (out .entry)) (now (out .exit)) ⌝ }
 {
     let size = n * m;
-    let second = 2 * size;
-    let third = 3 * size;
-    let fourth = 4 * size;
-    put_column(&mut out[size..second], n, m, c, setoff);
-    put_column(&mut out[second..third], n, m, c, underdrawn);
-    put_column(&mut out[third..fourth], n, m, c, shortfall);
-    out[fourth + n + c] = remainder;
+    put_column_at(out, size, n, m, c, setoff);
+    put_column_at(out, 2 * size, n, m, c, underdrawn);
+    put_column_at(out, 3 * size, n, m, c, shortfall);
+    out[4 * size + n + c] = remainder;
 }
 
 // Rules 5 to 7 for consumer c, whose exit reading is `read`.
@@ -82,19 +95,19 @@ fn settle_one(s: &[u8], n: usize, m: usize, c: usize, read: u64, out: &mut [u64]
 {
     let ranks = ranks_of(s, c);
     let turns = order::in_order(ranks, n);
-    let second = 2 * (n * m);
-    let third = 3 * (n * m);
-    let fourth = 4 * (n * m);
-    let mut has = column(&out[second..third], n, m, c);
+    let size = n * m;
+    let mut has = [0u64; 8];
+    get_column_at(out, 2 * size, n, m, c, &mut has);
     let mut taken = [0u64; 8];
     let left = order::settle(&turns, n, &mut has, &mut taken, read);
-    let mut gap = column(&out[third..fourth], n, m, c);
+    let mut gap = [0u64; 8];
+    get_column_at(out, 3 * size, n, m, c, &mut gap);
     let mut short = [0u64; 8];
     let rest = order::settle(&turns, n, &mut gap, &mut short, left);
     put_settled(out, n, m, c, &taken, &has, &short, rest);
 }
 
-// Rules 5 to 7 of a block, in the slice in which rules 1 to 4 have left what is delivered.
+// Rules 5 to 7 of a block, in the slice in which rules 1 to 4, for whatever entry readings E, have left their figures.
 pub fn settle_all(s: &[u8], n: usize, m: usize, exit: &[u32], out: &mut [u64])
     requires { ⌜ Ranked (now s) n m × ((length (now exit) ≡ m) × (length (now out) ≡ 4 * (n * m) + n + m)) ⌝ }
     ensures { λ _. ⌜ ((E : ℕ → ℕ) → DeliveredIn (planIn (now (s .entry))) E (now (out .entry)) → now (out .exit) ≡ blockOutput (planIn (now (s .entry))) E (exitsIn (now (s .entry)) (now (exit .entry)))) ⌝ }

@@ -7,14 +7,14 @@ use mathlib.Core.Logic.{_⊎_, inl, inr}
 use native.Mathlib.Omega.{arith}
 use native.Mathlib.Nat.{zero-add}
 use lib.Dec.{eqb}
-use lib.ListN.{length, getD, set, take, drop}
+use lib.ListN.{length, getD, set, take}
 use lib.Seq.{length-take-le}
 use Rattle.lists.specs.Choice.{if_then_else_}
 use Rattle.lists.specs.Sums.{sum, sum-cong, sum-zero}
 use Rattle.lists.specs.Tables.{table, is-table}
 use Rattle.lists.specs.Pairs.{place}
 use Rattle.lists.specs.PairsLaws.{place-in}
-use Rattle.arrays.specs.Bounds.{mostFigure, Moderate}
+use Rattle.arrays.specs.Bounds.{mostFigure}
 use Rattle.codec.specs.Bytes.{encode, decode}
 use Rattle.codec.specs.BytesLaws.{Below, length-decode}
 use Rattle.delivery.specs.Plan.{Plan, deemed}
@@ -23,21 +23,21 @@ use Rattle.settlement.specs.Settlement.{setOff, underdrawn, shortfall, remainde
 use Rattle.settlement.specs.Settleable.{Settleable}
 use Rattle.settlement.specs.Beyond.{loss-beyond, setOff-beyond, underdrawn-beyond, shortfall-beyond, unaccounted-beyond, remainder-beyond}
 use Rattle.settlement.specs.Places.{Output, output-back}
-use Rattle.record.specs.Book.{Book}
 use Rattle.record.specs.Stored.{generatorAt, consumerAt, planOf, figures, storedGenerators, storedConsumers, stored}
 use Rattle.record.specs.Shape.{Shape}
 use Rattle.record.specs.SoundLaws.{Facts}
 use Rattle.record.specs.Words.{runLengths, total, words, cut, fromRuns, recordOf}
 use Rattle.record.specs.declared.Record.{Record}
-use Rattle.layout_rules.specs.Raised.{raised, from, raised-run, raised-either, raised-other, raised-table, first, second}
+use Rattle.layout_rules.specs.Raised.{raised, from, raised-run, raised-either, raised-other, raised-table}
 use Rattle.layout_rules.specs.LayoutLaws.{bytes-of-record}
 use Rattle.layout_rules.specs.Places.{kind-place}
-use Rattle.layout_rules.specs.Kept.{record-shape, record-kept, numbers-low}
+use Rattle.layout_rules.specs.Kept.{record-shape, read-kept, numbers-low}
 use Rattle.block_rules.specs.Block.{generatorAfterBlock, consumerAfterBlock, afterBlock, blockLength, entryOf, exitOf}
 use Rattle.block_rules.specs.BlockLaws.{Enterable}
 use Rattle.block_rules.specs.Settling.{settleable}
 use Rattle.block_rules.specs.RoomLaws.{output-moderate}
-use Rattle.block_totals.specs.Raise.{rowSum, columnSum, underdrawnPlace, fourRaised, generatorsRaised, consumersRaised, countsRaised, Low, Raisable, Listed, bookIn, Settled}
+use Rattle.layout_rules.specs.OnBytes.{bookIn}
+use Rattle.block_totals.specs.Raise.{rowSum, columnSum, fourRaised, generatorsRaised, consumersRaised, countsRaised, Raisable, OutputLists, Settled}
 
 -- list j of the record raised: what is added to it is e, which is 0 from place n on
 list-raised : (k n : ℕ) (ws : List ℕ) {xss : List (List ℕ)} (j : ℕ) (old : List ℕ) (f e : ℕ → ℕ) → n ≤ k → getD runLengths j 0 ≡ k → length old ≡ k →
@@ -203,10 +203,10 @@ module _ (s entry exit out : List ℕ) (f : Facts (bookIn s)) (ok : Enterable en
       list-raised 8 (p .G) _ 9 (x .setoff) (rowSum (p .C) out (p .G * p .C)) (λ g. sum (p .C) (λ c. setOff p E c (R c) g)) few refl (z .setoff) three refl
       (row p E R out listed able (p .G * p .C) (λ g c. setOff p E c (R c) g) (listed .setoff-is)) (no-row p E R out listed able (λ g c. setOff p E c (R c) g) (λ g c o. setOff-beyond p E d g c o (R c))) in
       let five =
-      list-raised 8 (p .G) four 10 (x .inadvertent) (first (λ g. eqb (kind g) 0) 575 615 (rowSum (p .C) out (2 * (p .G * p .C))) four) (λ g. if deemed p g then 0 else under p E R out listed able g) few refl
+      list-raised 8 (p .G) four 10 (x .inadvertent) (λ g. if eqb (kind g) 0 then rowSum (p .C) out (2 * (p .G * p .C)) g else 0) (λ g. if deemed p g then 0 else under p E R out listed able g) few refl
       (z .inadvertent) four′ refl (spilt p E R out listed able kind kind-is) (none-spilt p E R out listed able) in
       let six =
-      list-raised 8 (p .G) _ 15 (x .pending) (second (λ g. eqb (kind g) 0) 575 615 (rowSum (p .C) out (2 * (p .G * p .C))) four) (λ g. if deemed p g then under p E R out listed able g else 0) few refl
+      list-raised 8 (p .G) _ 15 (x .pending) (λ g. if eqb (kind g) 0 then 0 else rowSum (p .C) out (2 * (p .G * p .C)) g) (λ g. if deemed p g then under p E R out listed able g else 0) few refl
       (z .pending) five refl (due p E R out listed able kind kind-is) (none-due p E R out listed able) in
       ap (cut runLengths) (raised-either (λ g. eqb (kind g) 0) 575 615 (rowSum (p .C) out (2 * (p .G * p .C))) four (p .G) (omega arith)) ∙ six
 
@@ -241,7 +241,7 @@ module _ (s entry exit out : List ℕ) (f : Facts (bookIn s)) (ok : Enterable en
 
   -- what is not raised stays
   kept : r ≡ stored (figures r)
-  kept = sym (record-kept ws (length-decode 8 719 s))
+  kept = sym (read-kept ws (length-decode 8 719 s))
 
   from-runs : fromRuns consumers-after ≡ stored (afterBlock (bookIn s) E R)
   unfolding consumers-after generators-after counts-after recordOf fromRuns runLengths cut stored storedGenerators storedConsumers afterBlock generatorAfterBlock consumerAfterBlock figures planOf generatorAt consumerAt
@@ -301,7 +301,7 @@ module _ {s : List ℕ} {n m : ℕ} {entry exit out : List ℕ} (h : Settled s n
   pub exit-sized : length exit ≡ m
   exit-sized = h .enterable .exit-size ∙ sym (h .consumers)
 
-  pub lists-stand : Listed n m out
+  pub lists-stand : OutputLists n m out
   unfolding figures planOf blockLength
   lists-stand =
       record {

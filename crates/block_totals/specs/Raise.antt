@@ -9,10 +9,8 @@ use Rattle.lists.specs.Sums.{sum}
 use Rattle.arrays.specs.Bounds.{mostFigure, Moderate}
 use Rattle.codec.specs.Bytes.{decode}
 use Rattle.settlement.specs.Settlement.{blockOutput}
-use Rattle.record.specs.Book.{Book}
-use Rattle.record.specs.Stored.{figures}
 use Rattle.record.specs.SoundLaws.{Facts}
-use Rattle.record.specs.Words.{recordOf}
+use Rattle.layout_rules.specs.OnBytes.{bookIn}
 use Rattle.layout_rules.specs.Raised.{raised, from}
 use Rattle.block_rules.specs.Block.{entryOf, exitOf}
 use Rattle.block_rules.specs.BlockLaws.{Enterable}
@@ -59,6 +57,7 @@ countsRaised = raised (from 5) 2 (λ i. 1)
 
 -- the bytes s became t: f i was added to the number at place `at i`, for each i below n
 pub record Raised (at : ℕ → ℕ) (n : ℕ) (f : ℕ → ℕ) (s t : List ℕ) : Type 0 where
+  pub size : length t ≡ length s
   pub is : decode 8 719 t ≡ raised at n f (decode 8 719 s)
 
 -- the numbers from place p on are at most b
@@ -71,21 +70,18 @@ pub record Raisable (p n b : ℕ) (s : List ℕ) : Type 0 where
   pub placed : p + n ≤ 719
   pub low : Low p b (decode 8 719 s)
 
--- such numbers have room for a sum of 16 figures
+-- a number that is no more than this has room for a sum of 16 figures
 abbrev pub mostRaised : ℕ
 mostRaised = 16 * mostFigure
 
--- lists for n generators and m consumers, of figures of a sound record
-pub record Listed (n m : ℕ) (out : List ℕ) : Type 0 where
+-- the lists of a block of n generators and m consumers, with no number that is more than a sound record's
+pub record OutputLists (n m : ℕ) (out : List ℕ) : Type 0 where
   pub generators-few : n ≤ 8
   pub consumers-few : m ≤ 16
   pub size : length out ≡ 4 * (n * m) + n + m
   pub moderate : Moderate out
 
 -- ---- the call
-
-abbrev pub bookIn : List ℕ → Book
-bookIn s = figures (recordOf (decode 8 719 s))
 
 -- the bytes s hold a sound record, which takes a block of these readings, and the block's lists stand in out
 pub record Settled (s : List ℕ) (n m : ℕ) (entry exit out : List ℕ) : Type 0 where

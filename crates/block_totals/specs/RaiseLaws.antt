@@ -9,22 +9,23 @@ use borrow.Author.Tests.{eq-eqb, ne-eqb}
 use lib.Dec.{eqb}
 use lib.ListN.{length, getD, set}
 use Rattle.lists.specs.Choice.{if_then_else_}
-use Rattle.lists.specs.Sums.{sum, sum-none, sum-more, sum-cap}
+use Rattle.lists.specs.Sums.{sum-none, sum-more, sum-cap}
 use Rattle.arrays.specs.Bounds.{mostFigure, Moderate}
 use Rattle.codec.specs.Bytes.{decode}
 use Rattle.codec.specs.BytesLaws.{length-decode}
 use Rattle.layout_rules.specs.Raised.{raised, from, raised-none, raised-more, raised-other, raised-same, raised-nothing, raised-twice, raised-cap}
-use Rattle.block_totals.specs.Raise.{rowSum, columnSum, underdrawnPlace, fourRaised, generatorsRaised, consumersRaised, Raised, mostRaised, Low, Raisable}
+use Rattle.block_totals.specs.Raise.{rowSum, columnSum, underdrawnPlace, fourRaised, generatorsRaised, consumersRaised, Raised, mostRaised, Raisable}
 
 module _ {at f : ℕ → ℕ} {s : List ℕ} where
   pub none-raised : Raised at 0 f s s
-  none-raised = record { is = sym (raised-none at f (decode 8 719 s)) }
+  none-raised = record { size = refl; is = sym (raised-none at f (decode 8 719 s)) }
 
-  pub one-more : {i v : ℕ} {t u : List ℕ} → Raised at i f s t → v ≡ f i → decode 8 719 u ≡ set (decode 8 719 t) (at i) (getD (decode 8 719 t) (at i) 0 + v) → Raised at (i + 1) f s u
-  one-more {i} r w d = record { is = d ∙ rw (r .is, w) (sym (raised-more at f (decode 8 719 s) i)) }
+  pub one-more : {i v : ℕ} {t u : List ℕ} → Raised at i f s t → v ≡ f i → length u ≡ length t →
+      decode 8 719 u ≡ set (decode 8 719 t) (at i) (getD (decode 8 719 t) (at i) 0 + v) → Raised at (i + 1) f s u
+  one-more {i} r w e d = record { size = e ∙ r .size; is = d ∙ rw (r .is, w) (sym (raised-more at f (decode 8 719 s) i)) }
 
   pub all-raised : {n i : ℕ} {t : List ℕ} → Raised at i f s t → i ≡ n → Raised at n f s t
-  all-raised {t = t} r e = rw (← e) r
+  all-raised r e = rw (← e) r
 
   -- a number at no such place
   pub not-raised : {i : ℕ} {t : List ℕ} (k : ℕ) → Raised at i f s t → ((j : ℕ) → j < i → k ≡ at j → ⊥) → getD (decode 8 719 t) k 0 ≡ getD (decode 8 719 s) k 0
@@ -35,10 +36,10 @@ pub next-low : {p n b i : ℕ} {f : ℕ → ℕ} {s t : List ℕ} → Raisable p
 next-low {p} {i = i} h r = omega (arith, not-raised (p + i) r (λ j l e. omega arith), h .low .at (p + i) (omega arith))
 
 -- numbers that start w places behind those that are raised
-pub next-list : {p n b k : ℕ} {f : ℕ → ℕ} {s t : List ℕ} (w m : ℕ) → k ≤ w → p + w + m ≤ 719 → Raisable p n b s → Raised (from p) k f s t → length t ≡ length s → Raisable (p + w) m b t
-next-list w m l placed h r e =
+pub next-list : {p n b k : ℕ} {f : ℕ → ℕ} {s t : List ℕ} (w m : ℕ) → k ≤ w → p + w + m ≤ 719 → Raisable p n b s → Raised (from p) k f s t → Raisable (p + w) m b t
+next-list w m l placed h r =
     record {
-      size = e ∙ h .size;
+      size = r .size ∙ h .size;
       placed = placed;
       low = record { at = λ j o. omega (arith, not-raised j r (λ i a x. omega arith), h .low .at j (omega arith)) };
     }
@@ -57,7 +58,7 @@ row-within n m g h = omega (arith, mul-le-mul-right m h, suc-mul g m)
 
 module _ (at m first : ℕ) (xs s : List ℕ) where
   pub no-rows : Raised (from at) m (columnSum 0 m xs first) s s
-  no-rows = record { is = sym (raised-nothing (from at) (columnSum 0 m xs first) (decode 8 719 s) m (λ c l. sum-none (λ g. getD xs (first + (g * m + c)) 0))) }
+  no-rows = record { size = refl; is = sym (raised-nothing (from at) (columnSum 0 m xs first) (decode 8 719 s) m (λ c l. sum-none (λ g. getD xs (first + (g * m + c)) 0))) }
 
   pub one-row : (g : ℕ) {t u : List ℕ} → at + m ≤ 719 → Raised (from at) m (columnSum g m xs first) s t →
       Raised (from at) m (λ c. getD xs (first + g * m + c) 0) t u → Raised (from at) m (columnSum (g + 1) m xs first) s u
@@ -65,6 +66,7 @@ module _ (at m first : ℕ) (xs s : List ℕ) where
       let row : ℕ → ℕ = λ c. getD xs (first + g * m + c) 0 in
       let ws : List ℕ = decode 8 719 s in
       record {
+        size = d .size ∙ r .size;
         is =
             d .is ∙ ap (raised (from at) m row) (r .is) ∙ raised-twice at (columnSum g m xs first) row ws m (omega (arith, length-decode 8 719 s)) ∙
             raised-same (from at) (λ c. columnSum g m xs first c + row c) (columnSum (g + 1) m xs first) ws m
@@ -72,12 +74,12 @@ module _ (at m first : ℕ) (xs s : List ℕ) where
       }
 
   -- with few rows added there is room for more
-  pub rows-low : (g : ℕ) {t : List ℕ} → Raisable at m mostFigure s → Moderate xs → g ≤ 8 → Raised (from at) m (columnSum g m xs first) s t → length t ≡ 5752 → Raisable at m mostRaised t
-  rows-low g {t} h x few r e =
+  pub rows-low : (g : ℕ) {t : List ℕ} → Raisable at m mostFigure s → Moderate xs → g ≤ 8 → Raised (from at) m (columnSum g m xs first) s t → Raisable at m mostRaised t
+  rows-low g {t} h x few r =
       let most : (c : ℕ) → c < m → columnSum g m xs first c ≤ g * mostFigure = λ c l. sum-cap g mostFigure (λ k. getD xs (first + (k * m + c)) 0) (λ k o. x .at (first + (k * m + c))) in
       let fits : at + m ≤ length (decode 8 719 s) = omega (arith, h .placed, length-decode 8 719 s) in
       record {
-        size = e;
+        size = r .size ∙ h .size;
         placed = h .placed;
         low =
             record {

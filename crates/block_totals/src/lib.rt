@@ -9,7 +9,35 @@ ghost use Rattle.record.specs.Stored.{stored};
 ghost use Rattle.record.specs.Words.{words};
 ghost use Rattle.layout_rules.specs.Raised.{from};
 ghost use Rattle.block_rules.specs.Block.{entryOf, exitOf, afterBlock};
-ghost use Rattle.block_totals.specs.Raise.{rowSum, columnSum, underdrawnPlace, generatorsRaised, consumersRaised, Raised, mostRaised, Raisable, Listed, bookIn, Settled};
+ghost use Rattle.layout_rules.specs.OnBytes.{bookIn};
+ghost use Rattle.block_totals.specs.Raise.{rowSum, columnSum, underdrawnPlace, generatorsRaised, consumersRaised, Raised, mostRaised, Raisable, OutputLists, Settled};
+
+// Where the counts, the kinds and each list of totals start, counted in numbers of the record.
+const BLOCKS: usize = 5;
+
+const MONTH: usize = 6;
+
+const KIND: usize = 7;
+
+const INJECTED: usize = 543;
+
+const UNACCOUNTED: usize = 551;
+
+const LOST: usize = 559;
+
+const SET_OFF: usize = 567;
+
+const INADVERTENT: usize = 575;
+
+const PENDING: usize = 615;
+
+const METERED: usize = 623;
+
+const SET_OFF_METERED: usize = 639;
+
+const SHORTFALL: usize = 655;
+
+const OUTSTANDING: usize = 703;
 
 // The sum of row g of the rows of m numbers that start at `first`.
 fn row_sum(xs: &[u64], first: usize, m: usize, g: usize) -> u64
@@ -75,10 +103,10 @@ fn underdrawn_place(s: &[u8], g: usize) -> usize
     requires { ⌜ (length (now s) ≡ 5752) × (g < 8) ⌝ }
     ensures { λ r. ⌜ r ≡ underdrawnPlace (decode 8 719 (now (s .entry))) g ⌝ }
 {
-    if loading::number_at(s, layout_rules::AGREED + g * 3) == 0 {
-        return layout_rules::GENERATORS + 32 + g;
+    if loading::number_at(s, KIND + g * 3) == 0 {
+        return INADVERTENT + g;
     }
-    layout_rules::GENERATORS + 72 + g
+    PENDING + g
 }
 
 // Underdrawn energy by the kind of its generator.
@@ -95,26 +123,26 @@ fn raise_underdrawn(s: &mut [u8], xs: &[u64], first: usize, n: usize, m: usize)
 }
 
 fn raise_generators(s: &mut [u8], entry: &[u32], out: &[u64], n: usize, m: usize)
-    requires { ⌜ Raisable 543 80 mostFigure (now s) × ((length (now entry) ≡ n) × Listed n m (now out)) ⌝ }
+    requires { ⌜ Raisable 543 80 mostFigure (now s) × ((length (now entry) ≡ n) × OutputLists n m (now out)) ⌝ }
     ensures { λ _. ⌜ decode 8 719 (now (s .exit)) ≡ generatorsRaised n m (now (entry .entry)) (now (out .entry)) (decode 8 719 (now (s .entry))) ⌝ }
 {
     let size = n * m;
-    raise_readings(s, layout_rules::GENERATORS, entry);
-    raise_numbers(s, layout_rules::GENERATORS + 8, out, 4 * size, n);
-    raise_rows(s, layout_rules::GENERATORS + 16, out, 0, n, m);
-    raise_rows(s, layout_rules::GENERATORS + 24, out, size, n, m);
+    raise_readings(s, INJECTED, entry);
+    raise_numbers(s, UNACCOUNTED, out, 4 * size, n);
+    raise_rows(s, LOST, out, 0, n, m);
+    raise_rows(s, SET_OFF, out, size, n, m);
     raise_underdrawn(s, out, 2 * size, n, m);
 }
 
 fn raise_consumers(s: &mut [u8], exit: &[u32], out: &[u64], n: usize, m: usize)
-    requires { ⌜ Raisable 623 96 mostFigure (now s) × ((length (now exit) ≡ m) × Listed n m (now out)) ⌝ }
+    requires { ⌜ Raisable 623 96 mostFigure (now s) × ((length (now exit) ≡ m) × OutputLists n m (now out)) ⌝ }
     ensures { λ _. ⌜ decode 8 719 (now (s .exit)) ≡ consumersRaised n m (now (exit .entry)) (now (out .entry)) (decode 8 719 (now (s .entry))) ⌝ }
 {
     let size = n * m;
-    raise_readings(s, layout_rules::CONSUMERS, exit);
-    raise_columns(s, layout_rules::CONSUMERS + 16, out, size, n, m);
-    raise_columns(s, layout_rules::CONSUMERS + 32, out, 3 * size, n, m);
-    raise_numbers(s, layout_rules::CONSUMERS + 80, out, 4 * size + n, m);
+    raise_readings(s, METERED, exit);
+    raise_columns(s, SET_OFF_METERED, out, size, n, m);
+    raise_columns(s, SHORTFALL, out, 3 * size, n, m);
+    raise_numbers(s, OUTSTANDING, out, 4 * size + n, m);
 }
 
 // The record after a block whose lists stand in `out`.
@@ -122,8 +150,8 @@ pub fn raise(s: &mut [u8], n: usize, m: usize, entry: &[u32], exit: &[u32], out:
     requires { ⌜ Settled (now s) n m (now entry) (now exit) (now out) ⌝ }
     ensures { λ _. ⌜ now (s .exit) ≡ encode 8 (words (stored (afterBlock (bookIn (now (s .entry))) (entryOf (now (entry .entry)) (now (exit .entry)) (bookIn (now (s .entry)))) (exitOf (now (entry .entry)) (now (exit .entry)) (bookIn (now (s .entry))))))) ⌝ }
 {
-    storing::add_at(s, layout_rules::COUNTS + 1, 1);
-    storing::add_at(s, layout_rules::COUNTS + 2, 1);
+    storing::add_at(s, BLOCKS, 1);
+    storing::add_at(s, MONTH, 1);
     raise_generators(s, entry, out, n, m);
     raise_consumers(s, exit, out, n, m);
 }

@@ -1,16 +1,15 @@
 -- A record read from its 719 numbers is stored again as it stands. Assumes nothing.
-use Prim.Native.Nat.{ℕ, zero, suc, _+_, _≤_, _<_}
-use mathlib.Core.Path.{_≡_, refl, sym, ap, _∙_}
+use Prim.Native.Nat.{ℕ, zero, suc, _≤_, _<_}
+use mathlib.Core.Path.{_≡_, ap, _∙_}
 use mathlib.Core.List.{List, [], _∷_}
 use native.Mathlib.Omega.{arith}
 use lib.ListN.{length, getD, drop, length-drop}
 use lib.Seq.{length-take-le}
 use Rattle.lists.specs.Tables.{length-table}
-use Rattle.record.specs.Stored.{planOf, figures, stored}
-use Rattle.record.specs.Shape.{Shape, AgreedShape, LinksShape, ScheduleShape, GeneratorsShape, ConsumersShape, table-place, pairs-cell, generators-kept, consumers-kept}
+use Rattle.record.specs.Stored.{figures, stored}
+use Rattle.record.specs.Shape.{Shape, record-kept}
 use Rattle.record.specs.SoundLaws.{Facts}
 use Rattle.record.specs.Words.{runLengths, total, words, cut, fromRuns, recordOf}
-use Rattle.record.specs.declared.Record.{Record}
 use Rattle.layout_rules.specs.LayoutLaws.{most, words-of-record, words-low}
 
 -- each run has its length
@@ -19,25 +18,6 @@ unfolding cut total
 run-length [] ws e j h = absurd (omega arith)
 run-length (n ∷ ns) ws e zero h = length-take-le n ws (omega arith)
 run-length (n ∷ ns) ws e (suc j) h = run-length ns (drop n ws) (omega (arith, length-drop n ws)) j (omega arith)
-
--- the record of any figures in lists of the right lengths
-pub stored-figures : (r : Record) → Shape r → stored (figures r) ≡ r
-unfolding stored figures planOf
-stored-figures r s =
-    λ i. record {
-      terms = r .terms;
-      counts = r .counts;
-      agreed =
-          record {
-            kind = table-place 8 (r .agreed .kind) (s .agreed .kind) i;
-            installed = table-place 8 (r .agreed .installed) (s .agreed .installed) i;
-            contracted = table-place 8 (r .agreed .contracted) (s .agreed .contracted) i;
-          };
-      links = record { link = pairs-cell (r .links .link) (s .links .link) i; loss = pairs-cell (r .links .loss) (s .links .loss) i };
-      schedule = record { kw = pairs-cell (r .schedule .kw) (s .schedule .kw) i; rank = pairs-cell (r .schedule .rank) (s .schedule .rank) i };
-      generators = generators-kept (r .generators) (s .generators) i;
-      consumers = consumers-kept (r .consumers) (s .consumers) i;
-    }
 
 module _ (ws : List ℕ) (e : length ws ≡ 719) where
   pub record-shape : Shape (recordOf ws)
@@ -72,10 +52,10 @@ module _ (ws : List ℕ) (e : length ws ≡ 719) where
             };
       }
 
-  pub record-kept : stored (figures (recordOf ws)) ≡ recordOf ws
-  record-kept = stored-figures (recordOf ws) record-shape
+  pub read-kept : stored (figures (recordOf ws)) ≡ recordOf ws
+  read-kept = record-kept (recordOf ws) record-shape
 
   pub numbers-low : Facts (figures (recordOf ws)) → (i : ℕ) → getD ws i 0 ≤ most
   numbers-low f i =
-      let same : words (stored (figures (recordOf ws))) ≡ ws = ap words record-kept ∙ words-of-record ws e in
+      let same : words (stored (figures (recordOf ws))) ≡ ws = ap words read-kept ∙ words-of-record ws e in
       rw same at (words-low (figures (recordOf ws)) f i)

@@ -6,12 +6,21 @@ use lib.Dec.{eqb}
 use Rattle.lists.specs.Choice.{if_then_else_}
 use Rattle.codec.specs.Bytes.{encode, decode}
 use Rattle.record.specs.Words.{words, recordOf}
-use Rattle.record.specs.Stored.{figures, stored}
+use Rattle.delivery.specs.Plan.{Plan}
+use Rattle.record.specs.Book.{Book}
+use Rattle.record.specs.Stored.{planOf, figures, stored}
 use Rattle.record.specs.Called.{Rule, numberOn, outputAfter}
 use Rattle.record.specs.declared.Record.{Record}
 
+-- the record that bytes hold, its plan and its figures
 unfoldable pub recordIn : List ℕ → Record
 recordIn bytes = recordOf (decode 8 719 bytes)
+
+abbrev pub planIn : List ℕ → Plan
+planIn bytes = planOf (recordOf (decode 8 719 bytes))
+
+abbrev pub bookIn : List ℕ → Book
+bookIn bytes = figures (recordOf (decode 8 719 bytes))
 
 -- the bytes after a call: the numbers that it gave where it was accepted, else as they were
 unfoldable pub bytesAfter : (number : ℕ) (given bytes : List ℕ) → List ℕ

@@ -1,6 +1,6 @@
 -- Numbers of a list raised where they stand, and what that makes of its runs. Assumes nothing.
 use Prim.Native.Nat.{ℕ, zero, suc, _+_, _-_, _≤_, _<_}
-use mathlib.Core.Path.{_≡_, refl, sym, ap, ap₂, _∙_}
+use mathlib.Core.Path.{_≡_, refl, sym, ap, _∙_}
 use mathlib.Core.Bool.{Bool, true, false}
 use mathlib.Core.List.{List, [], _∷_}
 use mathlib.Core.Logic.{⊎-elim}
@@ -127,36 +127,32 @@ raised-table k n f g xs e b same none = is-table 0 k (λ i. place k xs i + g i) 
 
 -- ---- places of two lists, chosen for each number
 
-module _ (t : ℕ → Bool) (a b : ℕ) (f : ℕ → ℕ) (ws : List ℕ) where
-  -- what is added to the first list, and to the second
-  abbrev pub first : ℕ → ℕ
-  first i = if t i then f i else 0
+pub raised-either : (t : ℕ → Bool) (a b : ℕ) (f : ℕ → ℕ) (ws : List ℕ) (n : ℕ) → a + n ≤ b →
+    raised (λ i. if t i then a + i else b + i) n f ws ≡ raised (from b) n (λ i. if t i then 0 else f i) (raised (from a) n (λ i. if t i then f i else 0) ws)
+unfolding raised
+raised-either t a b f ws zero h = refl
+raised-either t a b f ws (suc n) h = rw (raised-either t a b f ws n (omega arith)) (go (t n))
+  where
+    unraised : (zs : List ℕ) (k : ℕ) → set zs k (getD zs k 0 + 0) ≡ zs
+    unraised zs k = rw add-zero (set-getD zs k 0)
 
-  abbrev pub second : ℕ → ℕ
-  second i = if t i then 0 else f i
+    later : ℕ → ℕ
+    later i = if t i then 0 else f i
 
-  pub raised-either : (n : ℕ) → a + n ≤ b → raised (λ i. if t i then a + i else b + i) n f ws ≡ raised (from b) n second (raised (from a) n first ws)
-  unfolding raised
-  raised-either zero h = refl
-  raised-either (suc n) h = rw (raised-either n (omega arith)) (go (t n))
-    where
-      unraised : (zs : List ℕ) (k : ℕ) → set zs k (getD zs k 0 + 0) ≡ zs
-      unraised zs k = rw add-zero (set-getD zs k 0)
+    xs : List ℕ
+    xs = raised (from a) n (λ i. if t i then f i else 0) ws
 
-      xs : List ℕ
-      xs = raised (from a) n first ws
+    ys : List ℕ → List ℕ
+    ys zs = raised (from b) n later zs
 
-      ys : List ℕ → List ℕ
-      ys zs = raised (from b) n second zs
+    apart : (i : ℕ) → i < n → a + n ≡ b + i → ⊥
+    apart i l e = omega arith
 
-      apart : (i : ℕ) → i < n → a + n ≡ b + i → ⊥
-      apart i l e = omega arith
-
-      go : (x : Bool) →
-          set (ys xs) (if x then a + n else b + n) (getD (ys xs) (if x then a + n else b + n) 0 + f n) ≡
-          (let zs = ys (set xs (a + n) (getD xs (a + n) 0 + (if x then f n else 0))) in set zs (b + n) (getD zs (b + n) 0 + (if x then 0 else f n)))
-      go true = rw (raised-other (from b) second xs n (a + n) apart) (sym (unraised _ (b + n) ∙ raised-set (from b) second xs n (a + n) _ apart))
-      go false = rw (unraised xs (a + n))
+    go : (x : Bool) →
+        set (ys xs) (if x then a + n else b + n) (getD (ys xs) (if x then a + n else b + n) 0 + f n) ≡
+        (let zs = ys (set xs (a + n) (getD xs (a + n) 0 + (if x then f n else 0))) in set zs (b + n) (getD zs (b + n) 0 + (if x then 0 else f n)))
+    go true = rw (raised-other (from b) later xs n (a + n) apart) (sym (unraised _ (b + n) ∙ raised-set (from b) later xs n (a + n) _ apart))
+    go false = rw (unraised xs (a + n))
 
 -- ---- the runs of a list that is cut
 

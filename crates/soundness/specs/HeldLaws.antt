@@ -22,7 +22,8 @@ use Rattle.record.specs.declared.Counts.{Counts}
 use Rattle.record.specs.declared.GeneratorTerms.{GeneratorTerms}
 use Rattle.record.specs.declared.ConsumerTerms.{ConsumerTerms}
 use Rattle.layout_rules.specs.Places as places
-use Rattle.soundness.specs.Held.{held, pairHeld}
+use Rattle.layout_rules.specs.OnBytes.{recordIn}
+use Rattle.soundness.specs.Held.{pairHeld}
 
 -- the numbers of the bytes s
 abbrev at : List ℕ → ℕ → ℕ
@@ -64,14 +65,14 @@ both-false false true = refl
 both-false false false = refl
 
 module _ (s : List ℕ) where
-  pub kw-held : (i : ℕ) → i < 128 → at s (287 + i) ≡ getD (held s .schedule .kw) i 0
-  unfolding held
+  pub kw-held : (i : ℕ) → i < 128 → at s (287 + i) ≡ getD (recordIn s .schedule .kw) i 0
+  unfolding recordIn
   kw-held i h = sym (places.kw-place (decode 8 719 s) i h)
 
   pub agreed-held : (G C g : ℕ) {kind installed contracted total : ℕ} → g < 8 →
-      kind ≡ at s (7 + g * 3) → installed ≡ at s (7 + g * 3 + 1) → contracted ≡ at s (7 + g * 3 + 2) → RowTotal (held s .schedule .kw) g C total →
-      agreedSound (ltb g G) kind installed contracted total ≡ agreedTest (held s .agreed) (held s .schedule .kw) G C g
-  unfolding held
+      kind ≡ at s (7 + g * 3) → installed ≡ at s (7 + g * 3 + 1) → contracted ≡ at s (7 + g * 3 + 2) → RowTotal (recordIn s .schedule .kw) g C total →
+      agreedSound (ltb g G) kind installed contracted total ≡ agreedTest (recordIn s .agreed) (recordIn s .schedule .kw) G C g
+  unfolding recordIn
   agreed-held G C g h a b c t =
       let ws = decode 8 719 s in
       rw (a ∙ sym (places.kind-place ws g h), b ∙ sym (places.installed-place ws g h), c ∙ sym (places.contracted-place ws g h)) (agreed-here _ _ G C g h t)
@@ -79,7 +80,7 @@ module _ (s : List ℕ) where
   pub pair-held : (inside : Bool) (k : ℕ) {link loss kw rank : ℕ} → k < 128 →
       link ≡ at s (31 + k) → loss ≡ at s (159 + k) → kw ≡ at s (287 + k) → rank ≡ at s (415 + k) →
       pairSound inside link loss kw rank ≡ pairHeld s inside k
-  unfolding pairHeld pairRead held
+  unfolding pairHeld pairRead recordIn
   pair-held inside k h a b c d =
       let ws = decode 8 719 s in
       rw (a ∙ sym (places.link-place ws k h), b ∙ sym (places.loss-place ws k h), c ∙ sym (places.kw-place ws k h), d ∙ sym (places.rank-place ws k h))
@@ -96,8 +97,8 @@ module _ (s : List ℕ) where
         lapsed = at s (543 + g + 56);
         bank = at s (543 + g + 64);
         pending = at s (543 + g + 72);
-      } → x ≡ generatorRead (held s .generators) g
-  unfolding held
+      } → x ≡ generatorRead (recordIn s .generators) g
+  unfolding recordIn
   generator-held g h e =
       let ws = decode 8 719 s in
       e ∙ sym (λ i. record {
@@ -121,8 +122,8 @@ module _ (s : List ℕ) where
         drawn = at s (623 + c + 48);
         supplied = at s (623 + c + 64);
         outstanding = at s (623 + c + 80);
-      } → x ≡ consumerRead (held s .consumers) c
-  unfolding held
+      } → x ≡ consumerRead (recordIn s .consumers) c
+  unfolding recordIn
   consumer-held c h e =
       let ws = decode 8 719 s in
       e ∙ sym (λ i. record {
@@ -135,36 +136,36 @@ module _ (s : List ℕ) where
       })
 
   -- Where every pair is sound, those beyond the agreement have no kW: the row of a generator beyond it need not be added up.
-  rows-within : (G C : ℕ) {a b : Bool} → a ≡ all 8 (λ g. agreedTest (held s .agreed) (held s .schedule .kw) G (limit (ltb g G) C) g) →
-      b ≡ all 8 (λ g. all 16 (pairTest (held s .links .link) (held s .links .loss) (held s .schedule .kw) (held s .schedule .rank) G C g)) → C ≤ 16 →
-      (a && b) ≡ (all 8 (agreedTest (held s .agreed) (held s .schedule .kw) G C) && b)
+  rows-within : (G C : ℕ) {a b : Bool} → a ≡ all 8 (λ g. agreedTest (recordIn s .agreed) (recordIn s .schedule .kw) G (limit (ltb g G) C) g) →
+      b ≡ all 8 (λ g. all 16 (pairTest (recordIn s .links .link) (recordIn s .links .loss) (recordIn s .schedule .kw) (recordIn s .schedule .rank) G C g)) → C ≤ 16 →
+      (a && b) ≡ (all 8 (agreedTest (recordIn s .agreed) (recordIn s .schedule .kw) G C) && b)
   unfolding agreedTest pairTest
   rows-within G C {a} {b} e f h = rw e (go b f)
     where
       kw : List ℕ
-      kw = held s .schedule .kw
+      kw = recordIn s .schedule .kw
 
-      same : (g : ℕ) → g < 8 → all 8 (λ g. all 16 (pairTest (held s .links .link) (held s .links .loss) kw (held s .schedule .rank) G C g)) ≡ true →
-          (t : Bool) → ltb g G ≡ t → agreedTest (held s .agreed) kw G (limit t C) g ≡ agreedTest (held s .agreed) kw G C g
+      same : (g : ℕ) → g < 8 → all 8 (λ g. all 16 (pairTest (recordIn s .links .link) (recordIn s .links .loss) kw (recordIn s .schedule .rank) G C g)) ≡ true →
+          (t : Bool) → ltb g G ≡ t → agreedTest (recordIn s .agreed) kw G (limit t C) g ≡ agreedTest (recordIn s .agreed) kw G C g
       same g l p true q = refl
       same g l p false q =
           let row = all-at 8 _ p g l in
           let zero : (c : ℕ) → c < C → cell 8 16 kw g c ≡ 0 = λ c k. none _ _ _ _ (rw q at (all-at 16 _ row c (omega (arith, k, h)))) in
           rw (sum-none (cell 8 16 kw g), sum-zero C (cell 8 16 kw g) zero)
 
-      go : (t : Bool) → t ≡ all 8 (λ g. all 16 (pairTest (held s .links .link) (held s .links .loss) kw (held s .schedule .rank) G C g)) →
-          (all 8 (λ g. agreedTest (held s .agreed) kw G (limit (ltb g G) C) g) && t) ≡ (all 8 (agreedTest (held s .agreed) kw G C) && t)
-      go false p = both-false (all 8 (λ g. agreedTest (held s .agreed) kw G (limit (ltb g G) C) g)) (all 8 (agreedTest (held s .agreed) kw G C))
+      go : (t : Bool) → t ≡ all 8 (λ g. all 16 (pairTest (recordIn s .links .link) (recordIn s .links .loss) kw (recordIn s .schedule .rank) G C g)) →
+          (all 8 (λ g. agreedTest (recordIn s .agreed) kw G (limit (ltb g G) C) g) && t) ≡ (all 8 (agreedTest (recordIn s .agreed) kw G C) && t)
+      go false p = both-false (all 8 (λ g. agreedTest (recordIn s .agreed) kw G (limit (ltb g G) C) g)) (all 8 (agreedTest (recordIn s .agreed) kw G C))
       go true p = ap (λ (x : Bool). x && true) (all-same 8 _ _ (λ g l. same g l (sym p) (ltb g G) refl))
 
   -- the tests of the parts make up the test of the record, its terms and counts being read apart
   pub sound-held : {terms : Terms} {counts : Counts} {a b c d : Bool} → terms ≡ recordOf (decode 8 719 s) .terms → counts ≡ recordOf (decode 8 719 s) .counts → countsTest terms counts ≡ true →
-      a ≡ all 8 (λ g. agreedTest (held s .agreed) (held s .schedule .kw) (terms .generators) (limit (ltb g (terms .generators)) (terms .consumers)) g) →
-      b ≡ all 8 (λ g. all 16 (pairTest (held s .links .link) (held s .links .loss) (held s .schedule .kw) (held s .schedule .rank) (terms .generators) (terms .consumers) g)) →
-      c ≡ all 8 (generatorTest (held s .generators) (terms .generators) (counts .blocks)) →
-      d ≡ all 16 (consumerTest (held s .consumers) (terms .consumers) (counts .blocks)) →
+      a ≡ all 8 (λ g. agreedTest (recordIn s .agreed) (recordIn s .schedule .kw) (terms .generators) (limit (ltb g (terms .generators)) (terms .consumers)) g) →
+      b ≡ all 8 (λ g. all 16 (pairTest (recordIn s .links .link) (recordIn s .links .loss) (recordIn s .schedule .kw) (recordIn s .schedule .rank) (terms .generators) (terms .consumers) g)) →
+      c ≡ all 8 (generatorTest (recordIn s .generators) (terms .generators) (counts .blocks)) →
+      d ≡ all 16 (consumerTest (recordIn s .consumers) (terms .consumers) (counts .blocks)) →
       (a && b && c && d) ≡ sound (figures (recordOf (decode 8 719 s)))
-  unfolding held
+  unfolding recordIn
   sound-held {c = c} {d = d} e f h p q x y =
       ap (λ (t : Bool). t && c && d) (rows-within _ _ p q (counts-fit _ _ h .consumers-fit)) ∙ sound-by-parts _ h refl q x y ∙ ap (λ (r : Record). sound (figures r)) (parts-read s e f)
 

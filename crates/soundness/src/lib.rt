@@ -14,7 +14,8 @@ ghost use Rattle.record.specs.Stored.{figures};
 ghost use Rattle.record.specs.Sound.{limit, sound};
 ghost use Rattle.record.specs.Capped.{RowTotal};
 ghost use Rattle.record.specs.SoundTests.{agreedTest, pairTest, generatorRead, generatorTest, consumerRead, consumerTest};
-ghost use Rattle.soundness.specs.Held.{held, pairHeld};
+ghost use Rattle.layout_rules.specs.OnBytes.{recordIn};
+ghost use Rattle.soundness.specs.Held.{pairHeld};
 use record::ConsumerTerms;
 use record::GeneratorTerms;
 use record::Record;
@@ -22,7 +23,7 @@ use record::Record;
 // The kW of generator g for the first n consumers, each capped.
 fn row_total(s: &[u8], g: usize, n: usize) -> u64
     requires { ⌜ (length (now s) ≡ 5752) × ((g < 8) × (n ≤ 16)) ⌝ }
-    ensures { λ r. ⌜ RowTotal (held (now (s .entry)) .schedule .kw) g n r ⌝ }
+    ensures { λ r. ⌜ RowTotal (recordIn (now (s .entry)) .schedule .kw) g n r ⌝ }
 {
     let mut total: u64 = 0;
     let mut c: usize = 0;
@@ -42,7 +43,7 @@ fn columns_within(inside: bool, m: usize) -> usize
 // n generators and m consumers, here and below. The row of a generator beyond the agreement is not added up: pairs_sound finds it to be zeros.
 fn agreed_at(s: &[u8], g: usize, n: usize, m: usize) -> bool
     requires { ⌜ (length (now s) ≡ 5752) × ((g < 8) × (m ≤ mostConsumers)) ⌝ }
-    ensures { λ r. ⌜ r ≡ agreedTest (held (now (s .entry)) .agreed) (held (now (s .entry)) .schedule .kw) n (limit (ltb g n) m) g ⌝ }
+    ensures { λ r. ⌜ r ≡ agreedTest (recordIn (now (s .entry)) .agreed) (recordIn (now (s .entry)) .schedule .kw) n (limit (ltb g n) m) g ⌝ }
 {
     let columns = columns_within(g < n, m);
     let total = row_total(s, g, columns);
@@ -58,7 +59,7 @@ fn agreed_at(s: &[u8], g: usize, n: usize, m: usize) -> bool
 
 fn agreed_all_sound(s: &[u8], n: usize, m: usize) -> bool
     requires { ⌜ (length (now s) ≡ 5752) × (m ≤ mostConsumers) ⌝ }
-    ensures { λ r. ⌜ r ≡ all 8 (λ g. agreedTest (held (now (s .entry)) .agreed) (held (now (s .entry)) .schedule .kw) n (limit (ltb g n) m) g) ⌝ }
+    ensures { λ r. ⌜ r ≡ all 8 (λ g. agreedTest (recordIn (now (s .entry)) .agreed) (recordIn (now (s .entry)) .schedule .kw) n (limit (ltb g n) m) g) ⌝ }
 {
     let mut ok = true;
     let mut g: usize = 0;
@@ -119,7 +120,7 @@ fn row_sound(s: &[u8], g: usize, m: usize) -> bool
 
 fn pairs_sound(s: &[u8], n: usize, m: usize) -> bool
     requires { ⌜ (length (now s) ≡ 5752) × ((n ≤ mostGenerators) × (m ≤ mostConsumers)) ⌝ }
-    ensures { λ r. ⌜ r ≡ all 8 (λ g. all 16 (pairTest (held (now (s .entry)) .links .link) (held (now (s .entry)) .links .loss) (held (now (s .entry)) .schedule .kw) (held (now (s .entry)) .schedule .rank) n m g)) ⌝ }
+    ensures { λ r. ⌜ r ≡ all 8 (λ g. all 16 (pairTest (recordIn (now (s .entry)) .links .link) (recordIn (now (s .entry)) .links .loss) (recordIn (now (s .entry)) .schedule .kw) (recordIn (now (s .entry)) .schedule .rank) n m g)) ⌝ }
 {
     let mut ok = true;
     let mut g: usize = 0;
@@ -132,7 +133,7 @@ fn pairs_sound(s: &[u8], n: usize, m: usize) -> bool
 
 fn generator_terms(s: &[u8], g: usize) -> GeneratorTerms
     requires { ⌜ (length (now s) ≡ 5752) × (g < 8) ⌝ }
-    ensures { λ x. ⌜ x ≡ generatorRead (held (now (s .entry)) .generators) g ⌝ }
+    ensures { λ x. ⌜ x ≡ generatorRead (recordIn (now (s .entry)) .generators) g ⌝ }
 {
     let k = layout_rules::GENERATORS + g;
     GeneratorTerms {
@@ -151,7 +152,7 @@ fn generator_terms(s: &[u8], g: usize) -> GeneratorTerms
 
 fn generators_sound(s: &[u8], n: usize, blocks: u64) -> bool
     requires { ⌜ (length (now s) ≡ 5752) × (blocks ≤ mostUnitBlocks) ⌝ }
-    ensures { λ r. ⌜ r ≡ all 8 (generatorTest (held (now (s .entry)) .generators) n blocks) ⌝ }
+    ensures { λ r. ⌜ r ≡ all 8 (generatorTest (recordIn (now (s .entry)) .generators) n blocks) ⌝ }
 {
     let mut ok = true;
     let mut g: usize = 0;
@@ -164,7 +165,7 @@ fn generators_sound(s: &[u8], n: usize, blocks: u64) -> bool
 
 fn consumer_terms(s: &[u8], c: usize) -> ConsumerTerms
     requires { ⌜ (length (now s) ≡ 5752) × (c < 16) ⌝ }
-    ensures { λ x. ⌜ x ≡ consumerRead (held (now (s .entry)) .consumers) c ⌝ }
+    ensures { λ x. ⌜ x ≡ consumerRead (recordIn (now (s .entry)) .consumers) c ⌝ }
 {
     let k = layout_rules::CONSUMERS + c;
     ConsumerTerms {
@@ -179,7 +180,7 @@ fn consumer_terms(s: &[u8], c: usize) -> ConsumerTerms
 
 fn consumers_sound(s: &[u8], m: usize, blocks: u64) -> bool
     requires { ⌜ (length (now s) ≡ 5752) × (blocks ≤ mostUnitBlocks) ⌝ }
-    ensures { λ r. ⌜ r ≡ all 16 (consumerTest (held (now (s .entry)) .consumers) m blocks) ⌝ }
+    ensures { λ r. ⌜ r ≡ all 16 (consumerTest (recordIn (now (s .entry)) .consumers) m blocks) ⌝ }
 {
     let mut ok = true;
     let mut c: usize = 0;

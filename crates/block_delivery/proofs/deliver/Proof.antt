@@ -2,7 +2,8 @@
 use Prim.Native.Nat.{_-_, _*_, _≤_}
 use native.Mathlib.Omega.{arith}
 use borrow.Author.Needs.{needs}
-use Rattle.block_delivery.specs.Lent.{planIn, entriesIn}
+use Rattle.layout_rules.specs.OnBytes.{planIn}
+use Rattle.block_delivery.specs.Lent.{entriesIn}
 use Rattle.block_delivery.specs.RowLaws.{kw-high}
 use Rattle.block_delivery.specs.Filling.{Filled, filled-none, delivered-all}
 use Rattle.block_delivery.proofs.deliver.Statement.{statement}

@@ -9,7 +9,8 @@ use Rattle.lists.specs.PairsLaws.{place-in}
 use Rattle.delivery.specs.Plan.{Plan}
 use Rattle.delivery.specs.Delivery.{counted, unaccounted}
 use Rattle.delivery.specs.DeliveryLaws.{counted-le}
-use Rattle.block_delivery.specs.Lent.{planIn, entriesIn}
+use Rattle.layout_rules.specs.OnBytes.{planIn}
+use Rattle.block_delivery.specs.Lent.{entriesIn}
 use Rattle.block_delivery.specs.LentLaws.{kind-at}
 use Rattle.block_delivery.specs.Rows.{RowOf}
 use Rattle.block_delivery.specs.RowLaws.{scheduled-here, scheduled-low, counted-here, parts-here, pair-ready}

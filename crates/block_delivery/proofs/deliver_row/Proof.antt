@@ -3,7 +3,7 @@ use Prim.Native.Nat.{ℕ, _+_, _-_, _*_, _≤_, _<_}
 use mathlib.Core.Path.{_≡_, sym, _∙_}
 use native.Mathlib.Omega.{arith}
 use lib.ListN.{length, length-set}
-use Rattle.block_delivery.specs.Lent.{planIn}
+use Rattle.layout_rules.specs.OnBytes.{planIn}
 use Rattle.block_delivery.specs.LentLaws.{loss-at}
 use Rattle.block_delivery.specs.Rows.{RowOf}
 use Rattle.block_delivery.specs.RowLaws.{pair-done}

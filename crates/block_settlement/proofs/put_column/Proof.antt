@@ -1,17 +1,18 @@
--- `block_settlement::put_column` meets its contract: g places of the column are written.
+-- `block_settlement::put_column` meets its contract: g places of the column are written. Assumes nothing.
 use Prim.Native.Nat.{_-_, _≤_}
 use mathlib.Core.Path.{_≡_, refl}
 use native.Mathlib.Omega.{arith}
 use borrow.Author.Needs.{needs}
-use Rattle.block_settlement.specs.Columns.{ColumnPut, put-start, put-step, Spot, spot}
+use Rattle.block_settlement.specs.Columns.{ColumnPut}
+use Rattle.block_settlement.specs.ColumnsLaws.{put-start, put-step, Spot, spot}
 use Rattle.block_settlement.proofs.put_column.Statement.{statement}
 use Rattle.block_settlement.proofs.put_column.Tie as tie
 
 abbrev Inv-loop : tie.InvT-loop
-Inv-loop list₀ n w c xs g₀ list g = ColumnPut n w list₀ c xs g list × (g ≤ n)
+Inv-loop list₀ n m c xs g₀ list g = ColumnPut n m list₀ c xs g list × (g ≤ n)
 
 abbrev μ-loop : tie.MeasureT-loop
-μ-loop list₀ n w c xs g₀ list g = n - g
+μ-loop list₀ n m c xs g₀ list g = n - g
 
 loop-holds : tie.Need-loop-holds Inv-loop μ-loop
 loop-holds c = (put-start (c .pre .0), search needs)
@@ -22,7 +23,7 @@ mul-list c = search needs
 element-copy-out-list : tie.Need-element-copy-out-list Inv-loop μ-loop
 element-copy-out-list c = search needs
 
-at : (c : tie.In-loop Inv-loop μ-loop) → let a = c .before .before .args in Spot (a .n) (a .w) (c .before .loop .g) (a .c)
+at : (c : tie.In-loop Inv-loop μ-loop) → let a = c .before .before .args in Spot (a .n) (a .m) (c .before .loop .g) (a .c)
 at c = let p = c .before .before .pre in spot _ _ _ _ (search needs) (p .1 .0) (p .1 .1 .0) (p .1 .1 .1)
 
 mul-list-2 : tie.Need-mul-list-2 Inv-loop μ-loop

@@ -3,13 +3,10 @@ use Prim.Native.Nat.{_-_}
 use mathlib.Core.Path.{_∙_}
 use borrow.Author.Needs.{needs}
 use Rattle.lists.specs.Tables.{Filling, fill-start, fill-step, fill-done}
-use Rattle.block_settlement.specs.Bytes.{planIn}
+use Rattle.layout_rules.specs.OnBytes.{planIn}
 use Rattle.block_settlement.specs.BytesLaws.{rank-at}
 use Rattle.block_settlement.proofs.ranks_of.Statement.{statement}
 use Rattle.block_settlement.proofs.ranks_of.Tie as tie
-use Rattle.block_settlement.proofs.ranks_of.Reads as reads
-use Rattle.block_settlement.proofs.ranks_of.Lts as lts
-use Rattle.loading.proofs.number_at.Reads as number-at-reads
 
 abbrev Inv-loop : tie.InvT-loop
 Inv-loop s c from ranks₀ g₀ ranks g = Filling 8 (λ h. planIn s .rank h c) ranks₀ g ranks
@@ -17,47 +14,36 @@ Inv-loop s c from ranks₀ g₀ ranks g = Filling 8 (λ h. planIn s .rank h c) r
 abbrev μ-loop : tie.MeasureT-loop
 μ-loop s c from ranks₀ g₀ ranks g = 8 - g
 
--- src/lib.rt:42:16
 add-from : tie.Need-add-from Inv-loop μ-loop
 add-from c = search needs
 
--- src/lib.rt:45:5
 loop-holds : tie.Need-loop-holds Inv-loop μ-loop
 loop-holds c = fill-start (search needs)
 
--- src/lib.rt:46:48
 mul-number-at : tie.Need-mul-number-at Inv-loop μ-loop
 mul-number-at c = search needs
 
--- src/lib.rt:46:41
 add-number-at : tie.Need-add-number-at Inv-loop μ-loop
 add-number-at c = search needs
 
--- src/lib.rt:46:20
 number-at-requires : tie.Need-number-at-requires Inv-loop μ-loop
 number-at-requires c κs = search needs
 
--- src/lib.rt:46:9
 mul-ranks : tie.Need-mul-ranks Inv-loop μ-loop
 mul-ranks c = search needs
 
--- src/lib.rt:46:9
 array-write-ranks : tie.Need-array-write-ranks Inv-loop μ-loop
 array-write-ranks c = search needs
 
--- src/lib.rt:47:9
 add-g : tie.Need-add-g Inv-loop μ-loop
 add-g c = search needs
 
--- src/lib.rt:45:5
 loop-less : tie.Need-loop-less Inv-loop μ-loop
 loop-less c = search needs
 
--- src/lib.rt:45:5
 loop-again : tie.Need-loop-again Inv-loop μ-loop
 loop-again c = fill-step (c .before .before .loop .inv) (search needs) (c .number-at .ensures ∙ rank-at _ _ _ (search needs) (search needs))
 
--- src/lib.rt:38:1
 returns : tie.Need-returns Inv-loop μ-loop
 returns c = fill-done (c .before .loop .inv) (search needs)
 

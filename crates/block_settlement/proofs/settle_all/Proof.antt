@@ -1,12 +1,13 @@
 -- `block_settlement::settle_all` meets its contract: c consumers are settled. Assumes nothing.
 use Prim.Native.Nat.{ℕ, _-_, _≤_, _<_}
-use mathlib.Core.Path.{_≡_, sym, _∙_}
+use mathlib.Core.Path.{_≡_, refl, sym, _∙_}
 use native.Mathlib.Omega.{arith}
 use borrow.Author.Needs.{needs}
 use lib.ListN.{length}
 use Rattle.lists.specs.PairsLaws.{place-in}
 use Rattle.delivery.specs.DeliveredIn.{DeliveredIn}
-use Rattle.block_settlement.specs.Bytes.{planIn, exitsIn}
+use Rattle.layout_rules.specs.OnBytes.{planIn}
+use Rattle.block_settlement.specs.Bytes.{exitsIn}
 use Rattle.block_settlement.specs.SettledTo.{SettledTo}
 use Rattle.block_settlement.specs.SettledLaws.{settled-start, settled-done}
 use Rattle.block_settlement.proofs.settle_all.Statement.{statement}
@@ -24,7 +25,7 @@ abbrev μ-loop : tie.MeasureT-loop
 μ-loop s n m exit out₀ c₀ out c = m - c
 
 loop-holds : tie.Need-loop-holds Inv-loop μ-loop
-loop-holds c = (λ E d. settled-start _ E _ d, search needs)
+loop-holds c = (λ E d. settled-start _ E _ d, (search needs, refl))
 
 mul-wide : tie.Need-mul-wide Inv-loop μ-loop
 mul-wide c = search needs
@@ -36,7 +37,10 @@ wide-requires : tie.Need-wide-requires Inv-loop μ-loop
 wide-requires c κs = search needs
 
 settle-one-requires : tie.Need-settle-one-requires Inv-loop μ-loop
-settle-one-requires c κs = search needs
+settle-one-requires c κs =
+    let turn = c .before .before .before in
+    let start = turn .before .before .before .before .before in
+    (start .pre .0, (turn .loop-test .taken, turn .before .loop .inv .1 .1 ∙ start .pre .1 .1))
 
 add-c : tie.Need-add-c Inv-loop μ-loop
 add-c c = search needs
@@ -56,7 +60,7 @@ loop-again c =
     (λ E d. one .«settle-one» .ensures E _ read (l .inv .0 E d), (omega (arith, turn .loop-test .taken), one .«settle-one» .kept .1 .1 .1 .1 .1 .0 ∙ l .inv .1 .1))
 
 same-length : tie.Need-same-length Inv-loop μ-loop
-same-length c = search needs
+same-length c = c .before .loop .inv .1 .1
 
 returns : tie.Need-returns Inv-loop μ-loop
 returns c = λ E d. settled-done _ E _ (c .before .loop .inv .0 E d) (omega (arith, c .before .before .before .before .before .pre .0 .m-is))

@@ -9,39 +9,31 @@ use Rattle.block_totals.specs.RaiseLaws.{none-raised, one-more, next-low
 use Rattle.block_totals.proofs.raise.Statement.{statement}
 use Rattle.block_totals.proofs.raise.Tie as tie
 
-add-add-at : tie.Need-add-add-at
-add-add-at c = search needs
-
 add-at-requires : tie.Need-add-at-requires
-add-at-requires c κs = let start = c .before .before .before .before .before in
-    let able = counts-raisable (start .pre) in
+add-at-requires c κs = let able = counts-raisable (c .before .before .before .before .before .pre) in
     (able .size, (omega arith, omega (arith, able .low .at 5 (omega arith))))
 
-add-add-at-2 : tie.Need-add-add-at-2
-add-add-at-2 c = search needs
-
 add-at-requires-2 : tie.Need-add-at-requires-2
-add-at-requires-2 c κs = let start = c .before .before .before .before .before .before .before .before .before in
-    let able = counts-raisable (start .pre) in
+add-at-requires-2 c κs = let able = counts-raisable (c .before .before .before .before .before .before .before .before .before .pre) in
     let call = c .before .before .before .add-at in
-    let one : Raised (from 5) 1 (λ i. 1) _ _ = one-more none-raised refl (call .ensures) in
-    (call .kept .0 ∙ able .size, (omega arith, omega (arith, next-low able one)))
+    let one : Raised (from 5) 1 (λ i. 1) _ _ = one-more none-raised refl (call .kept .0) (call .ensures) in
+    (one .size ∙ able .size, (omega arith, omega (arith, next-low able one)))
 
 raise-generators-requires : tie.Need-raise-generators-requires
-raise-generators-requires c κs = let start = c .before .before .before .before .before .before .before .before .before .before .before .before .before in
+raise-generators-requires c κs = let settled = c .before .before .before .before .before .before .before .before .before .before .before .before .before .pre in
     let first = c .before .before .before .before .before .before .before .add-at in
     let second = c .before .before .before .add-at2 in
-    let counts : Raised (from 5) 2 (λ i. 1) _ _ = one-more (one-more none-raised refl (first .ensures)) refl (second .ensures) in
-    (next-list 538 80 (omega arith) (omega arith) (counts-raisable (start .pre)) counts (second .kept .0 ∙ first .kept .0), (entry-sized (start .pre), lists-stand (start .pre)))
+    let counts : Raised (from 5) 2 (λ i. 1) _ _ = one-more (one-more none-raised refl (first .kept .0) (first .ensures)) refl (second .kept .0) (second .ensures) in
+    (next-list 538 80 (omega arith) (omega arith) (counts-raisable settled) counts, (entry-sized settled, lists-stand settled))
 
 raise-consumers-requires : tie.Need-raise-consumers-requires
-raise-consumers-requires c κs = let start = c .before .before .before .before .before .before .before .before .before .before .before .before .before .before .before .before .before in
+raise-consumers-requires c κs = let settled = c .before .before .before .before .before .before .before .before .before .before .before .before .before .before .before .before .before .pre in
     let first = c .before .before .before .before .before .before .before .before .before .before .before .add-at in
     let second = c .before .before .before .before .before .before .before .add-at2 in
     let third = c .before .before .before .raise-generators in
-    let counts : Raised (from 5) 2 (λ i. 1) _ _ = one-more (one-more none-raised refl (first .ensures)) refl (second .ensures) in
-    let behind = next-list 538 80 (omega arith) (omega arith) (counts-raisable (start .pre)) counts (second .kept .0 ∙ first .kept .0) in
-    (generators-behind _ _ _ _ _ (lists-stand (start .pre) .generators-few) behind (third .ensures) (third .kept .0), (exit-sized (start .pre), lists-stand (start .pre)))
+    let counts : Raised (from 5) 2 (λ i. 1) _ _ = one-more (one-more none-raised refl (first .kept .0) (first .ensures)) refl (second .kept .0) (second .ensures) in
+    let behind = next-list 538 80 (omega arith) (omega arith) (counts-raisable settled) counts in
+    (generators-behind _ _ _ _ _ (lists-stand settled .generators-few) behind (third .ensures) (third .kept .0), (exit-sized settled, lists-stand settled))
 
 same-length : tie.Need-same-length
 same-length c = search needs
@@ -54,8 +46,8 @@ returns c = let start = c .before .before .before .before .before .before .befor
     let second = c .before .before .before .before .before .before .before .before .before .before .add-at2 in
     let third = c .before .before .before .before .before .before .raise-generators in
     let fourth = c .before .before .raise-consumers in
-    let counts : Raised (from 5) 2 (λ i. 1) _ _ = one-more (one-more none-raised refl (first .ensures)) refl (second .ensures) in
-    let size = fourth .kept .0 ∙ third .kept .0 ∙ second .kept .0 ∙ first .kept .0 ∙ start .pre .size in
+    let counts : Raised (from 5) 2 (λ i. 1) _ _ = one-more (one-more none-raised refl (first .kept .0) (first .ensures)) refl (second .kept .0) (second .ensures) in
+    let size = fourth .kept .0 ∙ third .kept .0 ∙ counts .size ∙ start .pre .size in
     let numbers = fourth .ensures ∙ ap (consumersRaised (a .n) (a .m) (a .exit .now) (a .out .now)) (third .ensures ∙ ap (generatorsRaised (a .n) (a .m) (a .entry .now) (a .out .now)) (counts .is)) in
     bytes-after (start .pre) _ size (λ i. omega (arith, c .slice-known5 .given i)) numbers
 
@@ -63,9 +55,7 @@ pub raise-spec : {M : Type 1} → statement M
 raise-spec =
     tie.close
     (tie.spec
-    add-add-at
     add-at-requires
-    add-add-at-2
     add-at-requires-2
     raise-generators-requires
     raise-consumers-requires

@@ -12,18 +12,12 @@ raise-readings-requires : tie.Need-raise-readings-requires
 raise-readings-requires c κs = let start = c .before .before .before .before in
     fewer _ _ (omega (arith, start .pre .1 .0, start .pre .1 .1 .consumers-few)) (omega arith) (start .pre .0)
 
-add-raise-columns : tie.Need-add-raise-columns
-add-raise-columns c = search needs
-
 raise-columns-requires : tie.Need-raise-columns-requires
 raise-columns-requires c κs = let start = c .before .before .before .before .before .before .before .before in
     let lists = start .pre .1 .1 in
     let few = lists .consumers-few in
-    let one = c .before .before .before .raise-readings in
-    (fewer _ _ few (omega arith) (next-list 16 16 (omega (arith, start .pre .1 .0, few)) (omega arith) (start .pre .0) (one .ensures) (one .kept .0)), (omega (arith, lists .size), (lists .generators-few, lists .moderate)))
-
-add-raise-columns-2 : tie.Need-add-raise-columns-2
-add-raise-columns-2 c = search needs
+    let two = next-list 16 16 (omega (arith, start .pre .1 .0, few)) (omega arith) (start .pre .0) (c .before .before .before .raise-readings .ensures) in
+    (fewer _ _ few (omega arith) two, (omega (arith, lists .size), (lists .generators-few, lists .moderate)))
 
 mul-raise-columns : tie.Need-mul-raise-columns
 mul-raise-columns c = search needs
@@ -32,10 +26,9 @@ raise-columns-requires-2 : tie.Need-raise-columns-requires-2
 raise-columns-requires-2 c κs = let start = c .before .before .before .before .before .before .before .before .before .before .before .before in
     let lists = start .pre .1 .1 in
     let few = lists .consumers-few in
-    let one = c .before .before .before .before .before .before .before .raise-readings in
-    let two = c .before .before .before .raise-columns in
-    let behind = next-list 16 16 (omega (arith, start .pre .1 .0, few)) (omega arith) (start .pre .0) (one .ensures) (one .kept .0) in
-    (fewer _ _ few (omega arith) (next-list 16 16 few (omega arith) behind (two .ensures) (two .kept .0)), (omega (arith, lists .size), (lists .generators-few, lists .moderate)))
+    let two = next-list 16 16 (omega (arith, start .pre .1 .0, few)) (omega arith) (start .pre .0) (c .before .before .before .before .before .before .before .raise-readings .ensures) in
+    let three = next-list 16 16 few (omega arith) two (c .before .before .before .raise-columns .ensures) in
+    (fewer _ _ few (omega arith) three, (omega (arith, lists .size), (lists .generators-few, lists .moderate)))
 
 add-raise-numbers : tie.Need-add-raise-numbers
 add-raise-numbers c = search needs
@@ -43,29 +36,22 @@ add-raise-numbers c = search needs
 mul-raise-numbers : tie.Need-mul-raise-numbers
 mul-raise-numbers c = search needs
 
-add-raise-numbers-2 : tie.Need-add-raise-numbers-2
-add-raise-numbers-2 c = search needs
-
 raise-numbers-requires : tie.Need-raise-numbers-requires
 raise-numbers-requires c κs = let start = c .before .before .before .before .before .before .before .before .before .before .before .before .before .before .before .before in
     let lists = start .pre .1 .1 in
     let few = lists .consumers-few in
-    let one = c .before .before .before .before .before .before .before .before .before .before .before .raise-readings in
-    let two = c .before .before .before .before .before .before .before .raise-columns in
-    let three = c .before .before .before .raise-columns2 in
-    let behind = next-list 16 16 (omega (arith, start .pre .1 .0, few)) (omega arith) (start .pre .0) (one .ensures) (one .kept .0) in
-    let behind′ = next-list 16 16 few (omega arith) behind (two .ensures) (two .kept .0) in
-    (fewer _ _ few (omega arith) (next-list 48 16 (omega arith) (omega arith) behind′ (three .ensures) (three .kept .0)), (omega (arith, lists .size), lists .moderate))
+    let two = next-list 16 16 (omega (arith, start .pre .1 .0, few)) (omega arith) (start .pre .0) (c .before .before .before .before .before .before .before .before .before .before .before .raise-readings .ensures) in
+    let three = next-list 16 16 few (omega arith) two (c .before .before .before .before .before .before .before .raise-columns .ensures) in
+    let last = next-list 48 16 (omega arith) (omega arith) three (c .before .before .before .raise-columns2 .ensures) in
+    (fewer _ _ few (omega arith) last, (omega (arith, lists .size), lists .moderate))
 
 same-length : tie.Need-same-length
 same-length c = search needs
 
 returns : tie.Need-returns
 returns c = let start = c .before .before .before .before .before .before .before .before .before .before .before .before .before .before .before .before .before .before .before in
-    let one = c .before .before .before .before .before .before .before .before .before .before .before .before .before .before .raise-readings in
-    let two = c .before .before .before .before .before .before .before .before .before .before .raise-columns in
-    let three = c .before .before .before .before .before .before .raise-columns2 in
-    consumers-all (start .args .n) (start .args .m) (start .args .exit .now) (start .args .out .now) (start .args .s .now) (start .pre .1 .0) (one .ensures) (two .ensures) (three .ensures) (c .before .before .raise-numbers .ensures)
+    let a = start .args in
+    consumers-all (a .n) (a .m) (a .exit .now) (a .out .now) (a .s .now) (start .pre .1 .0) (c .before .before .before .before .before .before .before .before .before .before .before .before .before .before .raise-readings .ensures) (c .before .before .before .before .before .before .before .before .before .before .raise-columns .ensures) (c .before .before .before .before .before .before .raise-columns2 .ensures) (c .before .before .raise-numbers .ensures)
 
 pub raise-consumers-spec : {M : Type 1} → statement M
 raise-consumers-spec =
@@ -73,14 +59,11 @@ raise-consumers-spec =
     (tie.spec
     mul-size
     raise-readings-requires
-    add-raise-columns
     raise-columns-requires
-    add-raise-columns-2
     mul-raise-columns
     raise-columns-requires-2
-    add-raise-numbers
     mul-raise-numbers
-    add-raise-numbers-2
+    add-raise-numbers
     raise-numbers-requires
     same-length
     returns)

@@ -1,8 +1,8 @@
 -- `block_totals::raise_numbers` meets its contract: the numbers passed are raised. Assumes nothing.
 use Prim.Native.Nat.{_+_, _-_, _≤_}
-use mathlib.Core.Path.{_∙_, refl, _≡_}
+use mathlib.Core.Path.{_∙_, refl}
 use native.Mathlib.Omega.{arith}
-use lib.ListN.{getD, length}
+use lib.ListN.{getD}
 use borrow.Author.Needs.{needs}
 use Rattle.layout_rules.specs.Raised.{from}
 use Rattle.block_totals.specs.Raise.{Raised}
@@ -11,13 +11,13 @@ use Rattle.block_totals.proofs.raise_numbers.Statement.{statement}
 use Rattle.block_totals.proofs.raise_numbers.Tie as tie
 
 abbrev Inv-loop : tie.InvT-loop
-Inv-loop s₀ at xs first n i₀ s i = (i ≤ n) × ((length s ≡ 5752) × Raised (from at) i (λ j. getD xs (first + j) 0) s₀ s)
+Inv-loop s₀ at xs first n i₀ s i = (i ≤ n) × Raised (from at) i (λ j. getD xs (first + j) 0) s₀ s
 
 abbrev μ-loop : tie.MeasureT-loop
 μ-loop s₀ at xs first n i₀ s i = n - i
 
 loop-holds : tie.Need-loop-holds Inv-loop μ-loop
-loop-holds c = (omega arith, (search needs, none-raised))
+loop-holds c = (omega arith, none-raised)
 
 add-add-at : tie.Need-add-add-at Inv-loop μ-loop
 add-add-at c = search needs
@@ -34,7 +34,8 @@ shared-slice-read-add-at c = search needs
 add-at-requires : tie.Need-add-at-requires Inv-loop μ-loop
 add-at-requires c κs = let l = c .before .before .before .loop in
     let start = c .before .before .before .before .before .before in
-    (l .inv .1 .0, (omega (arith, start .pre .0 .placed), omega (arith, next-low (start .pre .0) (l .inv .1 .1), start .pre .1 .1 .at (start .args .first + l .i))))
+    let able = start .pre .0 in
+    (l .inv .1 .size ∙ able .size, (omega (arith, able .placed), omega (arith, next-low able (l .inv .1), start .pre .1 .1 .at (start .args .first + l .i))))
 
 add-i : tie.Need-add-i Inv-loop μ-loop
 add-i c = search needs
@@ -45,13 +46,13 @@ loop-less c = search needs
 loop-again : tie.Need-loop-again Inv-loop μ-loop
 loop-again c = let call = c .before .before in
     let l = call .before .before .before .before .loop in
-    (omega arith, (call .add-at .kept .0 ∙ l .inv .1 .0, one-more (l .inv .1 .1) refl (call .add-at .ensures)))
+    (omega arith, one-more (l .inv .1) refl (call .add-at .kept .0) (call .add-at .ensures))
 
 same-length : tie.Need-same-length Inv-loop μ-loop
 same-length c = search needs
 
 returns : tie.Need-returns Inv-loop μ-loop
-returns c = let l = c .before .loop in all-raised (l .inv .1 .1) (omega arith)
+returns c = all-raised (c .before .loop .inv .1) (omega arith)
 
 pub raise-numbers-spec : {M : Type 1} → statement M
 raise-numbers-spec =

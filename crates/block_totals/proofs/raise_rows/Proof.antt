@@ -1,8 +1,7 @@
 -- `block_totals::raise_rows` meets its contract: the numbers passed are raised by the sums of their rows. Assumes nothing.
 use Prim.Native.Nat.{_-_, _≤_}
-use mathlib.Core.Path.{_≡_, _∙_}
+use mathlib.Core.Path.{_∙_}
 use native.Mathlib.Omega.{arith}
-use lib.ListN.{length}
 use borrow.Author.Needs.{needs}
 use Rattle.layout_rules.specs.Raised.{from}
 use Rattle.block_totals.specs.Raise.{rowSum, Raised}
@@ -11,13 +10,13 @@ use Rattle.block_totals.proofs.raise_rows.Statement.{statement}
 use Rattle.block_totals.proofs.raise_rows.Tie as tie
 
 abbrev Inv-loop : tie.InvT-loop
-Inv-loop s₀ at xs first n m g₀ s g = (g ≤ n) × ((length s ≡ 5752) × Raised (from at) g (rowSum m xs first) s₀ s)
+Inv-loop s₀ at xs first n m g₀ s g = (g ≤ n) × Raised (from at) g (rowSum m xs first) s₀ s
 
 abbrev μ-loop : tie.MeasureT-loop
 μ-loop s₀ at xs first n m g₀ s g = n - g
 
 loop-holds : tie.Need-loop-holds Inv-loop μ-loop
-loop-holds c = (omega arith, (search needs, none-raised))
+loop-holds c = (omega arith, none-raised)
 
 add-add-at : tie.Need-add-add-at Inv-loop μ-loop
 add-add-at c = search needs
@@ -30,7 +29,8 @@ row-sum-requires c κs = let l = c .before .before .loop in
 add-at-requires : tie.Need-add-at-requires Inv-loop μ-loop
 add-at-requires c κs = let l = c .before .before .before .loop in
     let start = c .before .before .before .before .before .before in
-    (l .inv .1 .0, (omega (arith, start .pre .0 .placed), omega (arith, next-low (start .pre .0) (l .inv .1 .1), c .row-sum .ensures, row-cap (start .args .m) (start .args .first) (l .g) (start .pre .1 .1 .1))))
+    let able = start .pre .0 in
+    (l .inv .1 .size ∙ able .size, (omega (arith, able .placed), omega (arith, next-low able (l .inv .1), c .row-sum .ensures, row-cap (start .args .m) (start .args .first) (l .g) (start .pre .1 .1 .1))))
 
 add-g : tie.Need-add-g Inv-loop μ-loop
 add-g c = search needs
@@ -41,13 +41,13 @@ loop-less c = search needs
 loop-again : tie.Need-loop-again Inv-loop μ-loop
 loop-again c = let call = c .before .before in
     let l = call .before .before .before .before .loop in
-    (omega arith, (call .add-at .kept .0 ∙ l .inv .1 .0, one-more (l .inv .1 .1) (call .before .row-sum .ensures) (call .add-at .ensures)))
+    (omega arith, one-more (l .inv .1) (call .before .row-sum .ensures) (call .add-at .kept .0) (call .add-at .ensures))
 
 same-length : tie.Need-same-length Inv-loop μ-loop
 same-length c = search needs
 
 returns : tie.Need-returns Inv-loop μ-loop
-returns c = let l = c .before .loop in all-raised (l .inv .1 .1) (omega arith)
+returns c = all-raised (c .before .loop .inv .1) (omega arith)
 
 pub raise-rows-spec : {M : Type 1} → statement M
 raise-rows-spec =

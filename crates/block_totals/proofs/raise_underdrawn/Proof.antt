@@ -2,7 +2,6 @@
 use Prim.Native.Nat.{_<_, _-_, _≤_}
 use mathlib.Core.Path.{_≡_, _∙_}
 use native.Mathlib.Omega.{arith}
-use lib.ListN.{length}
 use borrow.Author.Needs.{needs}
 use Rattle.codec.specs.Bytes.{decode}
 use Rattle.block_totals.specs.Raise.{rowSum, underdrawnPlace, Raised}
@@ -11,13 +10,13 @@ use Rattle.block_totals.proofs.raise_underdrawn.Statement.{statement}
 use Rattle.block_totals.proofs.raise_underdrawn.Tie as tie
 
 abbrev Inv-loop : tie.InvT-loop
-Inv-loop s₀ xs first n m g₀ s g = (g ≤ n) × ((length s ≡ 5752) × Raised (underdrawnPlace (decode 8 719 s₀)) g (rowSum m xs first) s₀ s)
+Inv-loop s₀ xs first n m g₀ s g = (g ≤ n) × Raised (underdrawnPlace (decode 8 719 s₀)) g (rowSum m xs first) s₀ s
 
 abbrev μ-loop : tie.MeasureT-loop
 μ-loop s₀ xs first n m g₀ s g = n - g
 
 loop-holds : tie.Need-loop-holds Inv-loop μ-loop
-loop-holds c = (omega arith, (search needs, none-raised))
+loop-holds c = (omega arith, none-raised)
 
 underdrawn-place-requires : tie.Need-underdrawn-place-requires Inv-loop μ-loop
 underdrawn-place-requires c κs = search needs
@@ -30,9 +29,10 @@ row-sum-requires c κs = let l = c .before .before .before .before .loop in
 add-at-requires : tie.Need-add-at-requires Inv-loop μ-loop
 add-at-requires c κs = let l = c .before .before .before .before .before .loop in
     let start = c .before .before .before .before .before .before .before .before in
+    let able = start .pre .0 in
     let few : l .g < 8 = omega (arith, start .pre .1 .1 .0) in
-    let at : c .before .before .underdrawn-place .result ≡ underdrawnPlace (decode 8 719 (start .args .s .now)) (l .g) = c .before .before .underdrawn-place .ensures ∙ place-stays (start .pre .0) few (l .inv .1 .1) in
-    (l .inv .1 .0, (omega (arith, place-high (decode 8 719 (start .args .s .now)) (l .g)), rw at (omega (arith, place-low (start .pre .0) few (l .inv .1 .1), c .row-sum .ensures, row-cap (start .args .m) (start .args .first) (l .g) (start .pre .1 .1 .1 .1)))))
+    let at : c .before .before .underdrawn-place .result ≡ underdrawnPlace (decode 8 719 (start .args .s .now)) (l .g) = c .before .before .underdrawn-place .ensures ∙ place-stays able few (l .inv .1) in
+    (l .inv .1 .size ∙ able .size, (omega (arith, place-high (decode 8 719 (start .args .s .now)) (l .g)), rw at (omega (arith, place-low able few (l .inv .1), c .row-sum .ensures, row-cap (start .args .m) (start .args .first) (l .g) (start .pre .1 .1 .1 .1)))))
 
 add-g : tie.Need-add-g Inv-loop μ-loop
 add-g c = search needs
@@ -45,14 +45,14 @@ loop-again c = let call = c .before .before in
     let l = call .before .before .before .before .before .before .loop in
     let start = call .before .before .before .before .before .before .before .before .before in
     let few : l .g < 8 = omega (arith, start .pre .1 .1 .0) in
-    let at = call .before .before .before .underdrawn-place .ensures ∙ place-stays (start .pre .0) few (l .inv .1 .1) in
-    (omega arith, (call .add-at .kept .0 ∙ l .inv .1 .0, one-more (l .inv .1 .1) (call .before .row-sum .ensures) (rw at at (call .add-at .ensures))))
+    let at = call .before .before .before .underdrawn-place .ensures ∙ place-stays (start .pre .0) few (l .inv .1) in
+    (omega arith, one-more (l .inv .1) (call .before .row-sum .ensures) (call .add-at .kept .0) (rw at at (call .add-at .ensures)))
 
 same-length : tie.Need-same-length Inv-loop μ-loop
 same-length c = search needs
 
 returns : tie.Need-returns Inv-loop μ-loop
-returns c = let l = c .before .loop in all-raised (l .inv .1 .1) (omega arith)
+returns c = all-raised (c .before .loop .inv .1) (omega arith)
 
 pub raise-underdrawn-spec : {M : Type 1} → statement M
 raise-underdrawn-spec =

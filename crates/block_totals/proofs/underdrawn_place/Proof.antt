@@ -25,12 +25,6 @@ returns : tie.Need-returns
 returns c = let start = c .before .before .before in
     omega (arith, inadvertent-place (decode 8 719 (start .args .s .now)) (start .args .g) (c .before .number-at .ensures) (c .if1 .taken))
 
-add-result-3 : tie.Need-add-result-3
-add-result-3 c = search needs
-
-add-result-4 : tie.Need-add-result-4
-add-result-4 c = search needs
-
 returns-2 : tie.Need-returns-2
 returns-2 c = let start = c .before .before .before in
     omega (arith, pending-place (decode 8 719 (start .args .s .now)) (start .args .g) (c .before .number-at .ensures) (c .if1 .left))
@@ -43,8 +37,6 @@ underdrawn-place-spec =
     add-number-at
     number-at-requires
     add-result
-    add-result-2
     returns
-    add-result-3
-    add-result-4
+    add-result-2
     returns-2)

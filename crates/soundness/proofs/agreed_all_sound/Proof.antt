@@ -5,12 +5,12 @@ use borrow.Author.Needs.{needs}
 use Rattle.lists.specs.Tests.{Testing, test-start, test-step, test-done}
 use Rattle.record.specs.Sound.{limit}
 use Rattle.record.specs.SoundTests.{agreedTest}
-use Rattle.soundness.specs.Held.{held}
+use Rattle.layout_rules.specs.OnBytes.{recordIn}
 use Rattle.soundness.proofs.agreed_all_sound.Statement.{statement}
 use Rattle.soundness.proofs.agreed_all_sound.Tie as tie
 
 abbrev Inv-loop : tie.InvT-loop
-Inv-loop s n m ok₀ g₀ ok g = Testing 8 (λ h. agreedTest (held s .agreed) (held s .schedule .kw) n (limit (ltb h n) m) h) g ok
+Inv-loop s n m ok₀ g₀ ok g = Testing 8 (λ h. agreedTest (recordIn s .agreed) (recordIn s .schedule .kw) n (limit (ltb h n) m) h) g ok
 
 abbrev μ-loop : tie.MeasureT-loop
 μ-loop s n m ok₀ g₀ ok g = 8 - g

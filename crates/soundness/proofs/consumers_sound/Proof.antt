@@ -4,12 +4,12 @@ use mathlib.Core.Path.{_∙_}
 use borrow.Author.Needs.{needs}
 use Rattle.lists.specs.Tests.{Testing, test-start, test-step, test-done}
 use Rattle.record.specs.SoundTests.{consumerTest, consumer-here}
-use Rattle.soundness.specs.Held.{held}
+use Rattle.layout_rules.specs.OnBytes.{recordIn}
 use Rattle.soundness.proofs.consumers_sound.Statement.{statement}
 use Rattle.soundness.proofs.consumers_sound.Tie as tie
 
 abbrev Inv-loop : tie.InvT-loop
-Inv-loop s m blocks ok₀ c₀ ok c = Testing 16 (consumerTest (held s .consumers) m blocks) c ok
+Inv-loop s m blocks ok₀ c₀ ok c = Testing 16 (consumerTest (recordIn s .consumers) m blocks) c ok
 
 abbrev μ-loop : tie.MeasureT-loop
 μ-loop s m blocks ok₀ c₀ ok c = 16 - c

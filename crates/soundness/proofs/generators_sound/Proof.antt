@@ -4,12 +4,12 @@ use mathlib.Core.Path.{_∙_}
 use borrow.Author.Needs.{needs}
 use Rattle.lists.specs.Tests.{Testing, test-start, test-step, test-done}
 use Rattle.record.specs.SoundTests.{generatorTest, generator-here}
-use Rattle.soundness.specs.Held.{held}
+use Rattle.layout_rules.specs.OnBytes.{recordIn}
 use Rattle.soundness.proofs.generators_sound.Statement.{statement}
 use Rattle.soundness.proofs.generators_sound.Tie as tie
 
 abbrev Inv-loop : tie.InvT-loop
-Inv-loop s n blocks ok₀ g₀ ok g = Testing 8 (generatorTest (held s .generators) n blocks) g ok
+Inv-loop s n blocks ok₀ g₀ ok g = Testing 8 (generatorTest (recordIn s .generators) n blocks) g ok
 
 abbrev μ-loop : tie.MeasureT-loop
 μ-loop s n blocks ok₀ g₀ ok g = 8 - g

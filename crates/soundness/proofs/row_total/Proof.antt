@@ -5,13 +5,13 @@ use borrow.Author.Needs.{needs}
 use Rattle.lists.specs.Pairs.{cell}
 use Rattle.lists.specs.PairsLaws.{cell-in}
 use Rattle.record.specs.CappedLaws.{Adding, add-start, add-step, add-done}
-use Rattle.soundness.specs.Held.{held}
+use Rattle.layout_rules.specs.OnBytes.{recordIn}
 use Rattle.soundness.specs.HeldLaws.{kw-held}
 use Rattle.soundness.proofs.row_total.Statement.{statement}
 use Rattle.soundness.proofs.row_total.Tie as tie
 
 abbrev Inv-loop : tie.InvT-loop
-Inv-loop s g n total₀ c₀ total c = Adding n (cell 8 16 (held s .schedule .kw) g) c total
+Inv-loop s g n total₀ c₀ total c = Adding n (cell 8 16 (recordIn s .schedule .kw) g) c total
 
 abbrev μ-loop : tie.MeasureT-loop
 μ-loop s g n total₀ c₀ total c = n - c
