@@ -86,7 +86,7 @@ extern "C" {
 #define WHEELING_MOST_CLOSE_OUTPUT_BYTES 1472u
 
 /* The stack that any call needs below its caller's frame, in bytes, at most. Measured by `make bench` on x86-64: opening
- * 19,624, schedule 33,144, block 20,104, closing 11,432. tests/stack.c fails where a call touches more than this. */
+ * 19,624, schedule 33,176, block 6,089, closing 7,113. tests/stack.c fails where a call touches more than this. */
 #define WHEELING_STACK_BYTES 40960u
 
 /* ---- The calls ---- */
