@@ -1,4 +1,5 @@
 // Adds and writes out the lists of a record: lists of 8 or 16 numbers, and pair lists of 8 rows of 16.
+// Called by this repository's crates only: what a function requires, its callers meet.
 ghost use mathlib.Core.Path.{_≡_};
 ghost use Prim.Native.Nat.{_+_, _*_, _<_, _≤_};
 ghost use lib.ListN.{length, getD};

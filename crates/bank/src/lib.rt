@@ -1,4 +1,5 @@
 // The bank: one balance a generator, with its own calls and limits (steps 1, 2 and 4 of a closing).
+// Called by this repository's crates only: what a function requires, its callers meet.
 ghost use mathlib.Core.Path.{_≡_};
 ghost use Prim.Native.Nat.{ℕ, _<_, _≤_};
 ghost use lib.Dec.{eqb};

@@ -19,7 +19,7 @@ use Rattle.block_rules.specs.Block.{afterBlock, entryOf, exitOf, blockRule}
 use Rattle.block_rules.specs.Accepted.{facts, enterable, generators-few, consumers-few, entry-size, exit-size, output-size, ranks-high, deliverable}
 use Rattle.block_delivery.specs.Lent.{entriesIn, Ready}
 use Rattle.block_settlement.specs.Bytes.{exitsIn, Ranked}
-use Rattle.block_totals.specs.Raise.{Settled}
+use Rattle.block_totals.specs.Totals.{Settled}
 
 module _ (s entry exit : List ℕ) (size n m : ℕ) (whole : length s ≡ 5752) (z : numberOn (blockRule entry exit size) (recordOf (decode 8 719 s)) ≡ 0)
     (n-read : n ≡ getD (decode 8 719 s) 0 0) (m-read : m ≡ getD (decode 8 719 s) 1 0) where

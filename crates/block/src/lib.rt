@@ -1,4 +1,5 @@
 // The call `block`: rules 1 to 8 on a record.
+// A function with a `requires` is called by this repository's crates only, and they meet it.
 ghost use mathlib.Core.Path.{_≡_};
 ghost use lib.ListN.{length};
 ghost use Rattle.layout_rules.specs.OnBytes.{CalledOn};
@@ -14,8 +15,8 @@ pub fn block_on(s: &mut [u8], entry: &[u32], exit: &[u32], out: &mut [u64]) -> u
 {
     let number = block_refusal::refusal_on(s, entry, exit, out.len());
     if number == 0 {
-        let n = loading::number_at(s, 0) as usize;
-        let m = loading::number_at(s, 1) as usize;
+        let n = in_place::number_at(s, layout_rules::GENERATOR_COUNT) as usize;
+        let m = in_place::number_at(s, layout_rules::CONSUMER_COUNT) as usize;
         block_delivery::deliver(s, n, m, entry, out);
         block_settlement::settle_all(s, n, m, exit, out);
         block_totals::raise(s, n, m, entry, exit, out);

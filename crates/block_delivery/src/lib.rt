@@ -21,7 +21,7 @@ fn kw_row(s: &[u8], g: usize) -> [u32; 16]
     let mut row = [0u32; 16];
     let mut c: usize = 0;
     while c < 16 {
-        row[c] = loading::number_at(s, from + c) as u32;
+        row[c] = in_place::number_at(s, from + c) as u32;
         c += 1;
     }
     row
@@ -61,7 +61,7 @@ fn deliver_row(
     let mut c: usize = 0;
     while c < m {
         let at = g * m + c;
-        let rate = loading::number_at(s, from + c);
+        let rate = in_place::number_at(s, from + c);
         let pair = block_pair::pair_at(kind, row, parts, c, rate);
         out[at] = pair.lost;
         out[2 * size + at] = pair.arrived;
@@ -83,7 +83,7 @@ fn deliver_one(
     requires { ⌜ Ready (now s) n m (now entry) × ((g < n) × ((row ≡ table 16 (planIn (now s) .kw g)) × Filled (planIn (now s)) (entriesIn (now s) (now entry)) n m (g * m) g (now out))) ⌝ }
     ensures { λ _. ⌜ Filled (planIn (now (s .entry))) (entriesIn (now (s .entry)) (now (entry .entry))) n m ((g + 1) * m) (g + 1) (now (out .exit)) ⌝ }
 {
-    let kind = loading::number_at(s, layout_rules::AGREED + g * 3);
+    let kind = in_place::number_at(s, layout_rules::AGREED + g * 3);
     let scheduled = block_counting::scheduled_kw(row);
     let reading = entry[g];
     let counts = block_counting::counted(kind, scheduled, reading);

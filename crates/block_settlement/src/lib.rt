@@ -61,7 +61,7 @@ fn ranks_of(s: &[u8], c: usize) -> [u64; 8]
     let mut ranks = [0u64; 8];
     let mut g: usize = 0;
     while g < 8 {
-        ranks[g] = loading::number_at(s, from + g * 16);
+        ranks[g] = in_place::number_at(s, from + g * 16);
         g += 1;
     }
     ranks

@@ -37,7 +37,8 @@ use Rattle.block_rules.specs.BlockLaws.{Enterable}
 use Rattle.block_rules.specs.Settling.{settleable}
 use Rattle.block_rules.specs.RoomLaws.{output-moderate}
 use Rattle.layout_rules.specs.OnBytes.{bookIn}
-use Rattle.block_totals.specs.Raise.{rowSum, columnSum, fourRaised, generatorsRaised, consumersRaised, countsRaised, Raisable, OutputLists, Settled}
+use Rattle.raising.specs.Raise.{rowSum, columnSum, Raisable}
+use Rattle.block_totals.specs.Totals.{fourRaised, generatorsRaised, consumersRaised, countsRaised, OutputLists, Settled}
 
 -- list j of the record raised: what is added to it is e, which is 0 from place n on
 list-raised : (k n : ℕ) (ws : List ℕ) {xss : List (List ℕ)} (j : ℕ) (old : List ℕ) (f e : ℕ → ℕ) → n ≤ k → getD runLengths j 0 ≡ k → length old ≡ k →

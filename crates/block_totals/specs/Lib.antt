@@ -1,3 +1,3 @@
-pub mod Raise
-pub mod RaiseLaws
+pub mod Totals
+pub mod TotalsLaws
 pub mod AfterLaws

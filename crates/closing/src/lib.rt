@@ -1,4 +1,5 @@
 // The call `close`: steps 1 to 4 of closing a month, on a record.
+// A function with a `requires` is called by this repository's crates only, and they meet it.
 ghost use mathlib.Core.Path.{_≡_};
 ghost use lib.ListN.{length};
 ghost use Rattle.record.specs.Called.{numberOn};

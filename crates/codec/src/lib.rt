@@ -1,4 +1,5 @@
 // Numbers as bytes, low byte first: 4 bytes a number in the inputs, 8 in the outputs and in the record.
+// Called by this repository's crates only: what a function requires, its callers meet.
 ghost use mathlib.Core.Path.{_≡_};
 ghost use mathlib.Core.List.{[], _∷_};
 ghost use Prim.Native.Nat.{_+_, _*_, _≤_};

@@ -1,4 +1,5 @@
 // Capacity and energy, the loss of a pair, and the row-sharing step.
+// A function with a `requires` is called by this repository's crates only, and they meet it.
 ghost use mathlib.Core.Path.{_≡_};
 ghost use Rattle.lists.specs.Sums.{sum};
 ghost use Rattle.lists.specs.Tables.{table};

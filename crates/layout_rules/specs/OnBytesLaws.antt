@@ -28,11 +28,12 @@ module _ (rule : Rule) (bytes lent : List ℕ) where
       record { number-is = e; record-is = rw (ne-eqb n 0 z); output-is = sym (output-refused rule (recordIn bytes) lent (λ y. z (e ∙ y))) }
 
 -- the call on a record, made on its bytes
-pub on-struct : {rule : Rule} {bytes lent bytes′ out : List ℕ} {n : ℕ} (r : Record) → Keeps rule → recordIn bytes ≡ r → CalledOn rule bytes lent n bytes′ out → Called rule r lent n (recordIn bytes′) out
+pub on-struct : {rule : Rule} {bytes lent bytes′ out : List ℕ} {n : ℕ} (r after : Record) → Keeps rule → recordIn bytes ≡ r → after ≡ recordIn bytes′ →
+    CalledOn rule bytes lent n bytes′ out → Called rule r lent n after out
 unfolding recordIn bytesAfter
-on-struct {rule} {bytes} {lent} {bytes′} {out} {n} r keeps e c =
-    subst (λ (x : Record). Called rule x lent n (recordIn bytes′) out) e
-    (record { number-is = c .number-is; record-is = go (eqb n 0) refl; output-is = c .output-is })
+on-struct {rule} {bytes} {lent} {bytes′} {out} {n} r after keeps e loaded c =
+    subst (λ (x : Record). Called rule x lent n after out) e
+    (record { number-is = c .number-is; record-is = loaded ∙ go (eqb n 0) refl; output-is = c .output-is })
   where
     here : Record
     here = recordIn bytes
@@ -41,8 +42,8 @@ on-struct {rule} {bytes} {lent} {bytes′} {out} {n} r keeps e c =
     go true q =
         let z = sym (c .number-is) ∙ eqb-true n 0 q in
         let sound = accepted-sound rule here z in
-        let after = rw (eq-eqb n 0 (eqb-true n 0 q)) at (c .record-is) in
-        ap recordIn after ∙ record-of-bytes (rule .after (figures here)) (keeps (figures here) (record-facts here sound) (sym (number-sound rule here sound) ∙ z)) ∙ sym (record-accepted rule here z)
+        let given = rw (eq-eqb n 0 (eqb-true n 0 q)) at (c .record-is) in
+        ap recordIn given ∙ record-of-bytes (rule .after (figures here)) (keeps (figures here) (record-facts here sound) (sym (number-sound rule here sound) ∙ z)) ∙ sym (record-accepted rule here z)
     go false q =
         let no = eqb-false n 0 q in
         let same = rw (ne-eqb n 0 no) at (c .record-is) in

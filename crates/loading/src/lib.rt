@@ -1,7 +1,7 @@
 // Reads the record's parts from its bytes. Called by this repository's crates only: what a function requires, its callers meet.
 ghost use mathlib.Core.Path.{_≡_};
 ghost use Prim.Native.Nat.{_+_, _≤_, _<_};
-ghost use lib.ListN.{length, getD};
+ghost use lib.ListN.{length};
 ghost use Rattle.codec.specs.Bytes.{decode};
 ghost use Rattle.record.specs.Words.{recordOf};
 ghost use Rattle.layout_rules.specs.Layout.{run, columnOf};
@@ -63,7 +63,7 @@ pub fn load_terms(s: &[u8]) -> record::Terms
     ensures { λ r. ⌜ r ≡ recordOf (decode 8 719 (now (s .entry))) .terms ⌝ }
 {
     let mut head = [0u64; 4];
-    load_run(s, layout_rules::TERMS, &mut head);
+    load_run(s, layout_rules::GENERATOR_COUNT, &mut head);
     record::Terms {
         generators: head[0],
         consumers: head[1],
@@ -77,7 +77,7 @@ pub fn load_counts(s: &[u8]) -> record::Counts
     ensures { λ r. ⌜ r ≡ recordOf (decode 8 719 (now (s .entry))) .counts ⌝ }
 {
     let mut head = [0u64; 3];
-    load_run(s, layout_rules::COUNTS, &mut head);
+    load_run(s, layout_rules::GONE, &mut head);
     record::Counts {
         gone: head[0],
         blocks: head[1],
@@ -123,16 +123,16 @@ pub fn load_generators(s: &[u8]) -> record::Generators
     requires { ⌜ length (now s) ≡ 5752 ⌝ }
     ensures { λ r. ⌜ r ≡ recordOf (decode 8 719 (now (s .entry))) .generators ⌝ }
 {
-    let injected = load8(s, layout_rules::GENERATORS);
-    let unaccounted = load8(s, layout_rules::GENERATORS + 8);
-    let lost = load8(s, layout_rules::GENERATORS + 16);
-    let setoff = load8(s, layout_rules::GENERATORS + 24);
-    let inadvertent = load8(s, layout_rules::GENERATORS + 32);
-    let charge = load8(s, layout_rules::GENERATORS + 40);
-    let drawn = load8(s, layout_rules::GENERATORS + 48);
-    let lapsed = load8(s, layout_rules::GENERATORS + 56);
-    let bank = load8(s, layout_rules::GENERATORS + 64);
-    let pending = load8(s, layout_rules::GENERATORS + 72);
+    let injected = load8(s, layout_rules::INJECTED);
+    let unaccounted = load8(s, layout_rules::UNACCOUNTED);
+    let lost = load8(s, layout_rules::LOST);
+    let setoff = load8(s, layout_rules::GENERATOR_SET_OFF);
+    let inadvertent = load8(s, layout_rules::INADVERTENT);
+    let charge = load8(s, layout_rules::CHARGE);
+    let drawn = load8(s, layout_rules::GENERATOR_DRAWN);
+    let lapsed = load8(s, layout_rules::LAPSED);
+    let bank = load8(s, layout_rules::BANK);
+    let pending = load8(s, layout_rules::PENDING);
     record::Generators {
         injected,
         unaccounted,
@@ -151,12 +151,12 @@ pub fn load_consumers(s: &[u8]) -> record::Consumers
     requires { ⌜ length (now s) ≡ 5752 ⌝ }
     ensures { λ r. ⌜ r ≡ recordOf (decode 8 719 (now (s .entry))) .consumers ⌝ }
 {
-    let metered = load16(s, layout_rules::CONSUMERS);
-    let setoff = load16(s, layout_rules::CONSUMERS + 16);
-    let shortfall = load16(s, layout_rules::CONSUMERS + 32);
-    let drawn = load16(s, layout_rules::CONSUMERS + 48);
-    let supplied = load16(s, layout_rules::CONSUMERS + 64);
-    let outstanding = load16(s, layout_rules::CONSUMERS + 80);
+    let metered = load16(s, layout_rules::METERED);
+    let setoff = load16(s, layout_rules::CONSUMER_SET_OFF);
+    let shortfall = load16(s, layout_rules::SHORTFALL);
+    let drawn = load16(s, layout_rules::CONSUMER_DRAWN);
+    let supplied = load16(s, layout_rules::SUPPLIED);
+    let outstanding = load16(s, layout_rules::OUTSTANDING);
     record::Consumers {
         metered,
         setoff,
@@ -187,12 +187,4 @@ pub fn load(s: &[u8]) -> record::Record
         generators,
         consumers,
     }
-}
-
-// Number `k` of the record, read where it stands.
-pub fn number_at(s: &[u8], k: usize) -> u64
-    requires { ⌜ (length (now s) ≡ 5752) × (k < 719) ⌝ }
-    ensures { λ r. ⌜ r ≡ getD (decode 8 719 (now (s .entry))) k 0 ⌝ }
-{
-    codec::number8(s, k * 8)
 }

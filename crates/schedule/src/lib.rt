@@ -1,4 +1,5 @@
 // Giving a unit a schedule: the call's number on the display, and the record with the new schedule.
+// A function with a `requires` is called by this repository's crates only, and they meet it.
 ghost use mathlib.Core.Path.{_≡_};
 ghost use mathlib.Core.Bool.{_&&_};
 ghost use Prim.Native.Nat.{_+_, _*_, _<_, _≤_};

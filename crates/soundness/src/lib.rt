@@ -28,7 +28,7 @@ fn row_total(s: &[u8], g: usize, n: usize) -> u64
     let mut total: u64 = 0;
     let mut c: usize = 0;
     while c < n {
-        total = total + record::capped(loading::number_at(s, layout_rules::KW + (g * 16 + c)));
+        total = total + record::capped(in_place::number_at(s, layout_rules::KW + (g * 16 + c)));
         c += 1;
     }
     total
@@ -50,9 +50,9 @@ fn agreed_at(s: &[u8], g: usize, n: usize, m: usize) -> bool
     let k = layout_rules::AGREED + g * 3;
     record::agreed_sound(
         g < n,
-        loading::number_at(s, k),
-        loading::number_at(s, k + 1),
-        loading::number_at(s, k + 2),
+        in_place::number_at(s, k),
+        in_place::number_at(s, k + 1),
+        in_place::number_at(s, k + 2),
         total,
     )
 }
@@ -77,10 +77,10 @@ fn pair_within(s: &[u8], k: usize) -> bool
 {
     record::pair_sound(
         true,
-        loading::number_at(s, layout_rules::LINK + k),
-        loading::number_at(s, layout_rules::LOSS + k),
-        loading::number_at(s, layout_rules::KW + k),
-        loading::number_at(s, layout_rules::RANK + k),
+        in_place::number_at(s, layout_rules::LINK + k),
+        in_place::number_at(s, layout_rules::LOSS + k),
+        in_place::number_at(s, layout_rules::KW + k),
+        in_place::number_at(s, layout_rules::RANK + k),
     )
 }
 
@@ -94,10 +94,10 @@ fn beyond_sound(s: &[u8], from: usize, n: usize) -> bool
     while i < n {
         let k = from + i;
         bits = bits
-            | loading::number_at(s, layout_rules::LINK + k)
-            | loading::number_at(s, layout_rules::LOSS + k)
-            | loading::number_at(s, layout_rules::KW + k)
-            | loading::number_at(s, layout_rules::RANK + k);
+            | in_place::number_at(s, layout_rules::LINK + k)
+            | in_place::number_at(s, layout_rules::LOSS + k)
+            | in_place::number_at(s, layout_rules::KW + k)
+            | in_place::number_at(s, layout_rules::RANK + k);
         i += 1;
     }
     bits == 0
@@ -135,18 +135,18 @@ fn generator_terms(s: &[u8], g: usize) -> GeneratorTerms
     requires { ⌜ (length (now s) ≡ 5752) × (g < 8) ⌝ }
     ensures { λ x. ⌜ x ≡ generatorRead (recordIn (now (s .entry)) .generators) g ⌝ }
 {
-    let k = layout_rules::GENERATORS + g;
+    let k = layout_rules::INJECTED + g;
     GeneratorTerms {
-        injected: loading::number_at(s, k),
-        unaccounted: loading::number_at(s, k + 8),
-        lost: loading::number_at(s, k + 16),
-        setoff: loading::number_at(s, k + 24),
-        inadvertent: loading::number_at(s, k + 32),
-        charge: loading::number_at(s, k + 40),
-        drawn: loading::number_at(s, k + 48),
-        lapsed: loading::number_at(s, k + 56),
-        bank: loading::number_at(s, k + 64),
-        pending: loading::number_at(s, k + 72),
+        injected: in_place::number_at(s, k),
+        unaccounted: in_place::number_at(s, k + 8),
+        lost: in_place::number_at(s, k + 16),
+        setoff: in_place::number_at(s, k + 24),
+        inadvertent: in_place::number_at(s, k + 32),
+        charge: in_place::number_at(s, k + 40),
+        drawn: in_place::number_at(s, k + 48),
+        lapsed: in_place::number_at(s, k + 56),
+        bank: in_place::number_at(s, k + 64),
+        pending: in_place::number_at(s, k + 72),
     }
 }
 
@@ -167,14 +167,14 @@ fn consumer_terms(s: &[u8], c: usize) -> ConsumerTerms
     requires { ⌜ (length (now s) ≡ 5752) × (c < 16) ⌝ }
     ensures { λ x. ⌜ x ≡ consumerRead (recordIn (now (s .entry)) .consumers) c ⌝ }
 {
-    let k = layout_rules::CONSUMERS + c;
+    let k = layout_rules::METERED + c;
     ConsumerTerms {
-        metered: loading::number_at(s, k),
-        setoff: loading::number_at(s, k + 16),
-        shortfall: loading::number_at(s, k + 32),
-        drawn: loading::number_at(s, k + 48),
-        supplied: loading::number_at(s, k + 64),
-        outstanding: loading::number_at(s, k + 80),
+        metered: in_place::number_at(s, k),
+        setoff: in_place::number_at(s, k + 16),
+        shortfall: in_place::number_at(s, k + 32),
+        drawn: in_place::number_at(s, k + 48),
+        supplied: in_place::number_at(s, k + 64),
+        outstanding: in_place::number_at(s, k + 80),
     }
 }
 

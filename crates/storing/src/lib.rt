@@ -1,7 +1,7 @@
 // Stores the record's parts into its bytes. Called by this repository's crates only: what a function requires, its callers meet.
 ghost use mathlib.Core.Path.{_≡_};
 ghost use Prim.Native.Nat.{_+_, _≤_, _<_};
-ghost use lib.ListN.{length, getD, set};
+ghost use lib.ListN.{length};
 ghost use Rattle.codec.specs.Bytes.{encode, decode};
 ghost use Rattle.record.specs.Words.{words, recordOf};
 ghost use Rattle.layout_rules.specs.Layout.{Laid, termsRun, countsRun, agreedRun, linksRun, scheduleRun, generatorsRun, consumersRun, withTotals};
@@ -47,7 +47,7 @@ fn store_terms(t: record::Terms, s: &mut [u8])
     ensures { λ _. ⌜ Laid 0 4 (termsRun t) (now (s .entry)) (now (s .exit)) ⌝ }
 {
     let run = [t.generators, t.consumers, t.rate, t.cycle];
-    codec::put8s(&run, s, layout_rules::TERMS);
+    codec::put8s(&run, s, layout_rules::GENERATOR_COUNT);
 }
 
 fn store_counts(t: record::Counts, s: &mut [u8])
@@ -55,7 +55,7 @@ fn store_counts(t: record::Counts, s: &mut [u8])
     ensures { λ _. ⌜ Laid 4 7 (countsRun t) (now (s .entry)) (now (s .exit)) ⌝ }
 {
     let run = [t.gone, t.blocks, t.month];
-    codec::put8s(&run, s, layout_rules::COUNTS);
+    codec::put8s(&run, s, layout_rules::GONE);
 }
 
 fn store_agreed(t: record::Agreed, s: &mut [u8])
@@ -91,25 +91,25 @@ fn store_generators(t: record::Generators, s: &mut [u8])
     ensures { λ _. ⌜ Laid 543 623 (generatorsRun t) (now (s .entry)) (now (s .exit)) ⌝ }
 {
     let injected = t.injected;
-    store8(injected, s, layout_rules::GENERATORS);
+    store8(injected, s, layout_rules::INJECTED);
     let unaccounted = t.unaccounted;
-    store8(unaccounted, s, layout_rules::GENERATORS + 8);
+    store8(unaccounted, s, layout_rules::UNACCOUNTED);
     let lost = t.lost;
-    store8(lost, s, layout_rules::GENERATORS + 16);
+    store8(lost, s, layout_rules::LOST);
     let setoff = t.setoff;
-    store8(setoff, s, layout_rules::GENERATORS + 24);
+    store8(setoff, s, layout_rules::GENERATOR_SET_OFF);
     let inadvertent = t.inadvertent;
-    store8(inadvertent, s, layout_rules::GENERATORS + 32);
+    store8(inadvertent, s, layout_rules::INADVERTENT);
     let charge = t.charge;
-    store8(charge, s, layout_rules::GENERATORS + 40);
+    store8(charge, s, layout_rules::CHARGE);
     let drawn = t.drawn;
-    store8(drawn, s, layout_rules::GENERATORS + 48);
+    store8(drawn, s, layout_rules::GENERATOR_DRAWN);
     let lapsed = t.lapsed;
-    store8(lapsed, s, layout_rules::GENERATORS + 56);
+    store8(lapsed, s, layout_rules::LAPSED);
     let bank = t.bank;
-    store8(bank, s, layout_rules::GENERATORS + 64);
+    store8(bank, s, layout_rules::BANK);
     let pending = t.pending;
-    store8(pending, s, layout_rules::GENERATORS + 72);
+    store8(pending, s, layout_rules::PENDING);
 }
 
 fn store_consumers(t: record::Consumers, s: &mut [u8])
@@ -117,17 +117,17 @@ fn store_consumers(t: record::Consumers, s: &mut [u8])
     ensures { λ _. ⌜ Laid 623 719 (consumersRun t) (now (s .entry)) (now (s .exit)) ⌝ }
 {
     let metered = t.metered;
-    store16(metered, s, layout_rules::CONSUMERS);
+    store16(metered, s, layout_rules::METERED);
     let setoff = t.setoff;
-    store16(setoff, s, layout_rules::CONSUMERS + 16);
+    store16(setoff, s, layout_rules::CONSUMER_SET_OFF);
     let shortfall = t.shortfall;
-    store16(shortfall, s, layout_rules::CONSUMERS + 32);
+    store16(shortfall, s, layout_rules::SHORTFALL);
     let drawn = t.drawn;
-    store16(drawn, s, layout_rules::CONSUMERS + 48);
+    store16(drawn, s, layout_rules::CONSUMER_DRAWN);
     let supplied = t.supplied;
-    store16(supplied, s, layout_rules::CONSUMERS + 64);
+    store16(supplied, s, layout_rules::SUPPLIED);
     let outstanding = t.outstanding;
-    store16(outstanding, s, layout_rules::CONSUMERS + 80);
+    store16(outstanding, s, layout_rules::OUTSTANDING);
 }
 
 pub fn store(r: record::Record, s: &mut [u8])
@@ -157,21 +157,4 @@ pub fn store_totals(
     codec::write8(&run, &mut s[32..56]);
     store_generators(generators, s);
     store_consumers(consumers, s);
-}
-
-// Writes number `k` of the record where it stands; the others stay.
-pub fn put_at(s: &mut [u8], k: usize, w: u64)
-    requires { ⌜ (length (now s) ≡ 5752) × (k < 719) ⌝ }
-    ensures { λ _. ⌜ (decode 8 719 (now (s .exit)) ≡ set (decode 8 719 (now (s .entry))) k w) × (length (now (s .exit)) ≡ 5752) ⌝ }
-{
-    codec::put8(w, s, k);
-}
-
-// Adds to number `k` of the record where it stands.
-pub fn add_at(s: &mut [u8], k: usize, w: u64)
-    requires { ⌜ (length (now s) ≡ 5752) × ((k < 719) × (getD (decode 8 719 (now s)) k 0 + w < 18_446_744_073_709_551_616)) ⌝ }
-    ensures { λ _. ⌜ decode 8 719 (now (s .exit)) ≡ set (decode 8 719 (now (s .entry))) k (getD (decode 8 719 (now (s .entry))) k 0 + w) ⌝ }
-{
-    let sum = loading::number_at(s, k) + w;
-    put_at(s, k, sum);
 }

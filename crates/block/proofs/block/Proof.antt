@@ -1,5 +1,4 @@
 -- `block::block` meets its contract: the call on the record's bytes is the call on the record.
-use mathlib.Core.Path.{_∙_}
 use borrow.Author.Needs.{needs}
 use Rattle.layout_rules.specs.OnBytes.{recordIn}
 use Rattle.layout_rules.specs.OnBytesLaws.{on-struct}
@@ -30,7 +29,7 @@ same-length c = search needs
 
 returns : tie.Need-returns
 unfolding recordIn
-returns c = rw (c .load .ensures) (on-struct _ (block-keeps _ _ _) (c .before .before .before .before .before .before .before .before .before .store .ensures .1) (c .before .before .before .before .before .block-on .ensures))
+returns c = on-struct _ _ (block-keeps _ _ _) (c .before .before .before .before .before .before .before .before .before .store .ensures .1) (c .load .ensures) (c .before .before .before .before .before .block-on .ensures)
 
 pub block-spec : {M : Type 1} → statement M
 block-spec =

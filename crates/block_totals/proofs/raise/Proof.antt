@@ -4,8 +4,10 @@ use native.Mathlib.Omega.{arith}
 use borrow.Author.Needs.{needs}
 use Rattle.layout_rules.specs.Raised.{from}
 use Rattle.block_totals.specs.AfterLaws.{bytes-after, counts-raisable, entry-sized, exit-sized, lists-stand}
-use Rattle.block_totals.specs.Raise.{Raised, countsRaised, generatorsRaised, consumersRaised}
-use Rattle.block_totals.specs.RaiseLaws.{none-raised, one-more, next-low, next-list, generators-behind}
+use Rattle.raising.specs.Raise.{Raised}
+use Rattle.block_totals.specs.Totals.{countsRaised, generatorsRaised, consumersRaised}
+use Rattle.raising.specs.RaiseLaws.{none-raised, one-more, next-low, next-list}
+use Rattle.block_totals.specs.TotalsLaws.{generators-behind}
 use Rattle.block_totals.proofs.raise.Statement.{statement}
 use Rattle.block_totals.proofs.raise.Tie as tie
 

@@ -4,8 +4,10 @@ use mathlib.Core.Path.{_≡_, _∙_}
 use native.Mathlib.Omega.{arith}
 use borrow.Author.Needs.{needs}
 use Rattle.codec.specs.Bytes.{decode}
-use Rattle.block_totals.specs.Raise.{rowSum, underdrawnPlace, Raised}
-use Rattle.block_totals.specs.RaiseLaws.{row-within, place-stays, place-low, place-high, none-raised, one-more, all-raised, row-cap}
+use Rattle.raising.specs.Raise.{rowSum, Raised}
+use Rattle.block_totals.specs.Totals.{underdrawnPlace}
+use Rattle.raising.specs.RaiseLaws.{row-within, none-raised, one-more, all-raised, row-cap}
+use Rattle.block_totals.specs.TotalsLaws.{place-stays, place-low, place-high}
 use Rattle.block_totals.proofs.raise_underdrawn.Statement.{statement}
 use Rattle.block_totals.proofs.raise_underdrawn.Tie as tie
 

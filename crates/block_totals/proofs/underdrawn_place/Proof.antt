@@ -2,7 +2,7 @@
 use native.Mathlib.Omega.{arith}
 use borrow.Author.Needs.{needs}
 use Rattle.codec.specs.Bytes.{decode}
-use Rattle.block_totals.specs.RaiseLaws.{inadvertent-place, pending-place}
+use Rattle.block_totals.specs.TotalsLaws.{inadvertent-place, pending-place}
 use Rattle.block_totals.proofs.underdrawn_place.Statement.{statement}
 use Rattle.block_totals.proofs.underdrawn_place.Tie as tie
 

@@ -1,5 +1,4 @@
 -- `closing::close` meets its contract: the call on the record's bytes is the call on the record.
-use mathlib.Core.Path.{_∙_}
 use borrow.Author.Needs.{needs}
 use Rattle.layout_rules.specs.OnBytes.{recordIn}
 use Rattle.layout_rules.specs.OnBytesLaws.{on-struct}
@@ -30,7 +29,7 @@ same-length c = search needs
 
 returns : tie.Need-returns
 unfolding recordIn
-returns c = rw (c .load .ensures) (on-struct _ (closing-keeps _) (c .before .before .before .before .before .before .before .before .before .store .ensures .1) (c .before .before .before .before .before .close-on .ensures))
+returns c = on-struct _ _ (closing-keeps _) (c .before .before .before .before .before .before .before .before .before .store .ensures .1) (c .load .ensures) (c .before .before .before .before .before .close-on .ensures)
 
 pub close-spec : {M : Type 1} → statement M
 close-spec =

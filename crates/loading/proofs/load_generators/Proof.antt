@@ -9,56 +9,29 @@ use Rattle.loading.proofs.load_generators.Tie as tie
 load8-requires : tie.Need-load8-requires
 load8-requires c κs = search needs
 
-add-load8 : tie.Need-add-load8
-add-load8 c = search needs
-
 load8-requires-2 : tie.Need-load8-requires-2
 load8-requires-2 c κs = search needs
-
-add-load8-2 : tie.Need-add-load8-2
-add-load8-2 c = search needs
 
 load8-requires-3 : tie.Need-load8-requires-3
 load8-requires-3 c κs = search needs
 
-add-load8-3 : tie.Need-add-load8-3
-add-load8-3 c = search needs
-
 load8-requires-4 : tie.Need-load8-requires-4
 load8-requires-4 c κs = search needs
-
-add-load8-4 : tie.Need-add-load8-4
-add-load8-4 c = search needs
 
 load8-requires-5 : tie.Need-load8-requires-5
 load8-requires-5 c κs = search needs
 
-add-load8-5 : tie.Need-add-load8-5
-add-load8-5 c = search needs
-
 load8-requires-6 : tie.Need-load8-requires-6
 load8-requires-6 c κs = search needs
-
-add-load8-6 : tie.Need-add-load8-6
-add-load8-6 c = search needs
 
 load8-requires-7 : tie.Need-load8-requires-7
 load8-requires-7 c κs = search needs
 
-add-load8-7 : tie.Need-add-load8-7
-add-load8-7 c = search needs
-
 load8-requires-8 : tie.Need-load8-requires-8
 load8-requires-8 c κs = search needs
 
-add-load8-8 : tie.Need-add-load8-8
-add-load8-8 c = search needs
-
 load8-requires-9 : tie.Need-load8-requires-9
 load8-requires-9 c κs = search needs
-
-add-load8-9 : tie.Need-add-load8-9
-add-load8-9 c = search needs
 
 load8-requires-10 : tie.Need-load8-requires-10
 load8-requires-10 c κs = search needs
@@ -85,22 +58,13 @@ load-generators-spec =
     tie.close
     (tie.spec
     load8-requires
-    add-load8
     load8-requires-2
-    add-load8-2
     load8-requires-3
-    add-load8-3
     load8-requires-4
-    add-load8-4
     load8-requires-5
-    add-load8-5
     load8-requires-6
-    add-load8-6
     load8-requires-7
-    add-load8-7
     load8-requires-8
-    add-load8-8
     load8-requires-9
-    add-load8-9
     load8-requires-10
     returns)

@@ -8,32 +8,17 @@ use Rattle.storing.proofs.store_consumers.Tie as tie
 store16-requires : tie.Need-store16-requires
 store16-requires c κs = search needs
 
-add-store16 : tie.Need-add-store16
-add-store16 c = search needs
-
 store16-requires-2 : tie.Need-store16-requires-2
 store16-requires-2 c κs = search needs
-
-add-store16-2 : tie.Need-add-store16-2
-add-store16-2 c = search needs
 
 store16-requires-3 : tie.Need-store16-requires-3
 store16-requires-3 c κs = search needs
 
-add-store16-3 : tie.Need-add-store16-3
-add-store16-3 c = search needs
-
 store16-requires-4 : tie.Need-store16-requires-4
 store16-requires-4 c κs = search needs
 
-add-store16-4 : tie.Need-add-store16-4
-add-store16-4 c = search needs
-
 store16-requires-5 : tie.Need-store16-requires-5
 store16-requires-5 c κs = search needs
-
-add-store16-5 : tie.Need-add-store16-5
-add-store16-5 c = search needs
 
 store16-requires-6 : tie.Need-store16-requires-6
 store16-requires-6 c κs = search needs
@@ -62,15 +47,10 @@ store-consumers-spec =
     tie.close
     (tie.spec
     store16-requires
-    add-store16
     store16-requires-2
-    add-store16-2
     store16-requires-3
-    add-store16-3
     store16-requires-4
-    add-store16-4
     store16-requires-5
-    add-store16-5
     store16-requires-6
     same-length
     returns)

@@ -9,56 +9,29 @@ use Rattle.storing.proofs.store_generators.Tie as tie
 store8-requires : tie.Need-store8-requires
 store8-requires c κs = search needs
 
-add-store8 : tie.Need-add-store8
-add-store8 c = search needs
-
 store8-requires-2 : tie.Need-store8-requires-2
 store8-requires-2 c κs = search needs
-
-add-store8-2 : tie.Need-add-store8-2
-add-store8-2 c = search needs
 
 store8-requires-3 : tie.Need-store8-requires-3
 store8-requires-3 c κs = search needs
 
-add-store8-3 : tie.Need-add-store8-3
-add-store8-3 c = search needs
-
 store8-requires-4 : tie.Need-store8-requires-4
 store8-requires-4 c κs = search needs
-
-add-store8-4 : tie.Need-add-store8-4
-add-store8-4 c = search needs
 
 store8-requires-5 : tie.Need-store8-requires-5
 store8-requires-5 c κs = search needs
 
-add-store8-5 : tie.Need-add-store8-5
-add-store8-5 c = search needs
-
 store8-requires-6 : tie.Need-store8-requires-6
 store8-requires-6 c κs = search needs
-
-add-store8-6 : tie.Need-add-store8-6
-add-store8-6 c = search needs
 
 store8-requires-7 : tie.Need-store8-requires-7
 store8-requires-7 c κs = search needs
 
-add-store8-7 : tie.Need-add-store8-7
-add-store8-7 c = search needs
-
 store8-requires-8 : tie.Need-store8-requires-8
 store8-requires-8 c κs = search needs
 
-add-store8-8 : tie.Need-add-store8-8
-add-store8-8 c = search needs
-
 store8-requires-9 : tie.Need-store8-requires-9
 store8-requires-9 c κs = search needs
-
-add-store8-9 : tie.Need-add-store8-9
-add-store8-9 c = search needs
 
 store8-requires-10 : tie.Need-store8-requires-10
 store8-requires-10 c κs = search needs
@@ -106,23 +79,14 @@ store-generators-spec =
     tie.close
     (tie.spec
     store8-requires
-    add-store8
     store8-requires-2
-    add-store8-2
     store8-requires-3
-    add-store8-3
     store8-requires-4
-    add-store8-4
     store8-requires-5
-    add-store8-5
     store8-requires-6
-    add-store8-6
     store8-requires-7
-    add-store8-7
     store8-requires-8
-    add-store8-8
     store8-requires-9
-    add-store8-9
     store8-requires-10
     same-length
     returns)

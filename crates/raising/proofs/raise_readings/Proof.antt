@@ -1,14 +1,14 @@
--- `block_totals::raise_readings` meets its contract: the numbers passed are raised. Assumes nothing.
+-- `raising::raise_readings` meets its contract: the numbers passed are raised. Assumes nothing.
 use Prim.Native.Nat.{_-_, _≤_}
 use mathlib.Core.Path.{_∙_}
 use native.Mathlib.Omega.{arith}
 use lib.ListN.{getD, length}
 use borrow.Author.Needs.{needs}
 use Rattle.layout_rules.specs.Raised.{from}
-use Rattle.block_totals.specs.Raise.{Raised}
-use Rattle.block_totals.specs.RaiseLaws.{none-raised, one-more, all-raised, next-low}
-use Rattle.block_totals.proofs.raise_readings.Statement.{statement}
-use Rattle.block_totals.proofs.raise_readings.Tie as tie
+use Rattle.raising.specs.Raise.{Raised}
+use Rattle.raising.specs.RaiseLaws.{none-raised, one-more, all-raised, next-low}
+use Rattle.raising.proofs.raise_readings.Statement.{statement}
+use Rattle.raising.proofs.raise_readings.Tie as tie
 
 abbrev Inv-loop : tie.InvT-loop
 Inv-loop s₀ at readings i₀ s i = (i ≤ length readings) × Raised (from at) i (λ j. getD readings j 0) s₀ s

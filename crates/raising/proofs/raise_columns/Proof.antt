@@ -1,13 +1,13 @@
--- `block_totals::raise_columns` meets its contract: all numbers are raised by the rows passed. Assumes nothing.
+-- `raising::raise_columns` meets its contract: all numbers are raised by the rows passed. Assumes nothing.
 use Prim.Native.Nat.{_-_, _≤_}
 use mathlib.Core.Path.{_≡_}
 use native.Mathlib.Omega.{arith}
 use borrow.Author.Needs.{needs}
 use Rattle.layout_rules.specs.Raised.{from}
-use Rattle.block_totals.specs.Raise.{columnSum, Raised}
-use Rattle.block_totals.specs.RaiseLaws.{row-within, no-rows, one-row, rows-low}
-use Rattle.block_totals.proofs.raise_columns.Statement.{statement}
-use Rattle.block_totals.proofs.raise_columns.Tie as tie
+use Rattle.raising.specs.Raise.{columnSum, Raised}
+use Rattle.raising.specs.RaiseLaws.{row-within, no-rows, one-row, rows-low}
+use Rattle.raising.proofs.raise_columns.Statement.{statement}
+use Rattle.raising.proofs.raise_columns.Tie as tie
 
 abbrev Inv-loop : tie.InvT-loop
 Inv-loop s₀ at xs first n m g₀ s g = (g ≤ n) × Raised (from at) m (columnSum g m xs first) s₀ s

@@ -1,9 +1,9 @@
--- `loading::number_at` meets its contract: the eight bytes there are the number's. Assumes nothing.
+-- `in_place::number_at` meets its contract: the eight bytes there are the number's. Assumes nothing.
 use mathlib.Core.Path.{sym, _∙_}
 use borrow.Author.Needs.{needs}
 use Rattle.codec.specs.BytesLaws.{decode-at}
-use Rattle.loading.proofs.number_at.Statement.{statement}
-use Rattle.loading.proofs.number_at.Tie as tie
+use Rattle.in_place.proofs.number_at.Statement.{statement}
+use Rattle.in_place.proofs.number_at.Tie as tie
 
 mul-number8 : tie.Need-mul-number8
 mul-number8 c = search needs

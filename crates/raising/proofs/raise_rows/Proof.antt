@@ -1,13 +1,13 @@
--- `block_totals::raise_rows` meets its contract: the numbers passed are raised by the sums of their rows. Assumes nothing.
+-- `raising::raise_rows` meets its contract: the numbers passed are raised by the sums of their rows. Assumes nothing.
 use Prim.Native.Nat.{_-_, _≤_}
 use mathlib.Core.Path.{_∙_}
 use native.Mathlib.Omega.{arith}
 use borrow.Author.Needs.{needs}
 use Rattle.layout_rules.specs.Raised.{from}
-use Rattle.block_totals.specs.Raise.{rowSum, Raised}
-use Rattle.block_totals.specs.RaiseLaws.{row-within, none-raised, one-more, all-raised, next-low, row-cap}
-use Rattle.block_totals.proofs.raise_rows.Statement.{statement}
-use Rattle.block_totals.proofs.raise_rows.Tie as tie
+use Rattle.raising.specs.Raise.{rowSum, Raised}
+use Rattle.raising.specs.RaiseLaws.{row-within, none-raised, one-more, all-raised, next-low, row-cap}
+use Rattle.raising.proofs.raise_rows.Statement.{statement}
+use Rattle.raising.proofs.raise_rows.Tie as tie
 
 abbrev Inv-loop : tie.InvT-loop
 Inv-loop s₀ at xs first n m g₀ s g = (g ≤ n) × Raised (from at) g (rowSum m xs first) s₀ s

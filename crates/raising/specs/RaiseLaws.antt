@@ -1,20 +1,16 @@
 -- The laws by which the loops that raise numbers of a record are proved. Assumes nothing.
 use Prim.Native.Nat.{ℕ, _+_, _*_, _≤_, _<_}
 use mathlib.Core.Path.{_≡_, refl, sym, ap, _∙_}
-use mathlib.Core.Bool.{Bool, true, false}
 use mathlib.Core.List.{List}
 use native.Mathlib.Omega.{arith}
 use native.Mathlib.Nat.{add-assoc, mul-le-mul-right, suc-mul}
-use borrow.Author.Tests.{eq-eqb, ne-eqb}
-use lib.Dec.{eqb}
 use lib.ListN.{length, getD, set}
-use Rattle.lists.specs.Choice.{if_then_else_}
 use Rattle.lists.specs.Sums.{sum-none, sum-more, sum-cap}
 use Rattle.arrays.specs.Bounds.{mostFigure, Moderate}
 use Rattle.codec.specs.Bytes.{decode}
 use Rattle.codec.specs.BytesLaws.{length-decode}
 use Rattle.layout_rules.specs.Raised.{raised, from, raised-none, raised-more, raised-other, raised-same, raised-nothing, raised-twice, raised-cap}
-use Rattle.block_totals.specs.Raise.{rowSum, columnSum, underdrawnPlace, fourRaised, generatorsRaised, consumersRaised, Raised, mostRaised, Raisable}
+use Rattle.raising.specs.Raise.{rowSum, columnSum, Raised, mostRaised, Raisable}
 
 module _ {at f : ℕ → ℕ} {s : List ℕ} where
   pub none-raised : Raised at 0 f s s
@@ -88,76 +84,3 @@ module _ (at m first : ℕ) (xs s : List ℕ) where
       }
 
 -- ---- the place by the kind
-
-module _ (ws : List ℕ) (g : ℕ) {kind : ℕ} (e : kind ≡ getD ws (7 + g * 3) 0) where
-  pub inadvertent-place : kind ≡ 0 → underdrawnPlace ws g ≡ 575 + g
-  inadvertent-place z = rw (eq-eqb (getD ws (7 + g * 3) 0) 0 (sym e ∙ z))
-
-  pub pending-place : (kind ≡ 0 → ⊥) → underdrawnPlace ws g ≡ 615 + g
-  pending-place z = rw (ne-eqb (getD ws (7 + g * 3) 0) 0 (λ y. z (e ∙ y)))
-
--- the places behind the kinds, one for each generator
-abbrev either : Bool → ℕ → ℕ
-either t g = if t then 575 + g else 615 + g
-
-either-low : (t : Bool) (g : ℕ) → 575 ≤ either t g
-either-low true g = omega arith
-either-low false g = omega arith
-
-either-high : (t : Bool) (g : ℕ) → either t g ≤ 615 + g
-either-high true g = omega arith
-either-high false g = omega arith
-
-either-apart : (t u : Bool) (g h : ℕ) → h < g → g < 8 → either t g ≡ either u h → ⊥
-either-apart true true g h l k e = omega arith
-either-apart true false g h l k e = omega arith
-either-apart false true g h l k e = omega arith
-either-apart false false g h l k e = omega arith
-
-pub place-high : (ws : List ℕ) (g : ℕ) → underdrawnPlace ws g ≤ 615 + g
-place-high ws g = either-high (eqb (getD ws (7 + g * 3) 0) 0) g
-
-module _ {b g : ℕ} {f : ℕ → ℕ} {s t : List ℕ} (h : Raisable 575 48 b s) (l : g < 8) (r : Raised (underdrawnPlace (decode 8 719 s)) g f s t) where
-  -- the kinds stay
-  pub place-stays : underdrawnPlace (decode 8 719 t) g ≡ underdrawnPlace (decode 8 719 s) g
-  place-stays = ap (λ (k : ℕ). if eqb k 0 then 575 + g else 615 + g) (not-raised (7 + g * 3) r (λ j o e. omega (arith, either-low (eqb (getD (decode 8 719 s) (7 + j * 3) 0) 0) j)))
-
-  pub place-low : getD (decode 8 719 t) (underdrawnPlace (decode 8 719 s) g) 0 ≤ b
-  place-low =
-      omega (
-        arith,
-        not-raised (underdrawnPlace (decode 8 719 s) g) r (λ j o e. either-apart (eqb (getD (decode 8 719 s) (7 + g * 3) 0) 0) (eqb (getD (decode 8 719 s) (7 + j * 3) 0) 0) g j o l e),
-        h .low .at (underdrawnPlace (decode 8 719 s) g) (either-low (eqb (getD (decode 8 719 s) (7 + g * 3) 0) 0) g),
-      )
-
--- ---- the totals of generators and of consumers, list by list
-
-module _ (n m : ℕ) (readings out s : List ℕ) where
-  pub generators-all : {t u v w x : List ℕ} → length readings ≡ n →
-      Raised (from 543) (length readings) (λ g. getD readings g 0) s t → Raised (from 551) n (λ g. getD out (4 * (n * m) + g) 0) t u → Raised (from 559) n (rowSum m out 0) u v →
-      Raised (from 567) n (rowSum m out (n * m)) v w → Raised (underdrawnPlace (decode 8 719 w)) n (rowSum m out (2 * (n * m))) w x →
-      decode 8 719 x ≡ generatorsRaised n m readings out (decode 8 719 s)
-  unfolding generatorsRaised fourRaised
-  generators-all e a b c d f = f .is ∙ rw (d .is, c .is, b .is, a .is, e)
-
-  pub consumers-all : {t u v w : List ℕ} → length readings ≡ m →
-      Raised (from 623) (length readings) (λ c. getD readings c 0) s t → Raised (from 639) m (columnSum n m out (n * m)) t u → Raised (from 655) m (columnSum n m out (3 * (n * m))) u v →
-      Raised (from 703) m (λ c. getD out (4 * (n * m) + n + c) 0) v w →
-      decode 8 719 w ≡ consumersRaised n m readings out (decode 8 719 s)
-  unfolding consumersRaised
-  consumers-all e a b c d = d .is ∙ rw (c .is, b .is, a .is, e)
-
-  -- what stands behind the generators' totals
-  pub generators-behind : {b : ℕ} {t : List ℕ} → n ≤ 8 → Raisable 543 80 b s → decode 8 719 t ≡ generatorsRaised n m readings out (decode 8 719 s) → length t ≡ length s → Raisable 623 96 b t
-  unfolding generatorsRaised fourRaised
-  generators-behind few h d e =
-      record {
-        size = e ∙ h .size;
-        placed = omega arith;
-        low = record { at = λ k l. omega (arith, ap (λ (ws : List ℕ). getD ws k 0) d, stays k l, h .low .at k (omega arith)) };
-      }
-    where
-      stays : (k : ℕ) → 623 ≤ k → getD (generatorsRaised n m readings out (decode 8 719 s)) k 0 ≡ getD (decode 8 719 s) k 0
-      stays k l =
-          raised-other _ _ _ n k (λ g o x. omega (arith, place-high (fourRaised n m readings out (decode 8 719 s)) g)) ∙ raised-other (from 567) _ _ n k (λ g o x. omega arith) ∙
-          raised-other (from 559) _ _ n k (λ g o x. omega arith) ∙ raised-other (from 551) _ _ n k (λ g o x. omega arith) ∙ raised-other (from 543) _ _ n k (λ g o x. omega arith)

@@ -1,4 +1,4 @@
--- `block_totals::row_sum` meets its contract: the sum so far is that of the numbers passed, each at most `mostFigure`. Assumes nothing.
+-- `raising::row_sum` meets its contract: the sum so far is that of the numbers passed, each at most `mostFigure`. Assumes nothing.
 use Prim.Native.Nat.{_+_, _*_, _-_}
 use mathlib.Core.Path.{refl}
 use native.Mathlib.Omega.{arith}
@@ -6,8 +6,8 @@ use lib.ListN.{getD}
 use borrow.Author.Needs.{needs}
 use Rattle.lists.specs.Sums.{Summing, sum-start, sum-step, sum-done}
 use Rattle.arrays.specs.Bounds.{mostFigure}
-use Rattle.block_totals.proofs.row_sum.Statement.{statement}
-use Rattle.block_totals.proofs.row_sum.Tie as tie
+use Rattle.raising.proofs.row_sum.Statement.{statement}
+use Rattle.raising.proofs.row_sum.Tie as tie
 
 abbrev Inv-loop : tie.InvT-loop
 Inv-loop xs first m g sum₀ c₀ sum c = Summing m (λ j. getD xs (first + (g * m + j)) 0) mostFigure c sum

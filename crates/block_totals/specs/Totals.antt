@@ -5,23 +5,14 @@ use mathlib.Core.List.{List}
 use lib.Dec.{eqb}
 use lib.ListN.{length, getD}
 use Rattle.lists.specs.Choice.{if_then_else_}
-use Rattle.lists.specs.Sums.{sum}
-use Rattle.arrays.specs.Bounds.{mostFigure, Moderate}
-use Rattle.codec.specs.Bytes.{decode}
+use Rattle.arrays.specs.Bounds.{Moderate}
 use Rattle.settlement.specs.Settlement.{blockOutput}
 use Rattle.record.specs.SoundLaws.{Facts}
 use Rattle.layout_rules.specs.OnBytes.{bookIn}
 use Rattle.layout_rules.specs.Raised.{raised, from}
+use Rattle.raising.specs.Raise.{rowSum, columnSum}
 use Rattle.block_rules.specs.Block.{entryOf, exitOf}
 use Rattle.block_rules.specs.BlockLaws.{Enterable}
-
--- ---- sums of a list of rows of m numbers that stands in xs from place `first` on
-
-abbrev pub rowSum : ℕ → List ℕ → ℕ → ℕ → ℕ
-rowSum m xs first g = sum m (λ c. getD xs (first + (g * m + c)) 0)
-
-abbrev pub columnSum : ℕ → ℕ → List ℕ → ℕ → ℕ → ℕ
-columnSum n m xs first c = sum n (λ g. getD xs (first + (g * m + c)) 0)
 
 -- ---- what a block raises, for n generators and m consumers, by its readings and its output
 
@@ -52,27 +43,6 @@ module _ (n m : ℕ) (readings out ws : List ℕ) where
 -- the blocks of the unit and of the month
 unfoldable pub countsRaised : List ℕ → List ℕ
 countsRaised = raised (from 5) 2 (λ i. 1)
-
--- ---- numbers raised in the record's bytes
-
--- the bytes s became t: f i was added to the number at place `at i`, for each i below n
-pub record Raised (at : ℕ → ℕ) (n : ℕ) (f : ℕ → ℕ) (s t : List ℕ) : Type 0 where
-  pub size : length t ≡ length s
-  pub is : decode 8 719 t ≡ raised at n f (decode 8 719 s)
-
--- the numbers from place p on are at most b
-pub record Low (p b : ℕ) (ws : List ℕ) : Type 0 where
-  pub at : (k : ℕ) → p ≤ k → getD ws k 0 ≤ b
-
--- n numbers of the record from place p on, with none that is more than b there or behind
-pub record Raisable (p n b : ℕ) (s : List ℕ) : Type 0 where
-  pub size : length s ≡ 5752
-  pub placed : p + n ≤ 719
-  pub low : Low p b (decode 8 719 s)
-
--- a number that is no more than this has room for a sum of 16 figures
-abbrev pub mostRaised : ℕ
-mostRaised = 16 * mostFigure
 
 -- the lists of a block of n generators and m consumers, with no number that is more than a sound record's
 pub record OutputLists (n m : ℕ) (out : List ℕ) : Type 0 where

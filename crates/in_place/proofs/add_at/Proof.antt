@@ -1,10 +1,10 @@
--- `storing::add_at` meets its contract: the number there is read, and its sum with w written. Assumes nothing.
+-- `in_place::add_at` meets its contract: the number there is read, and its sum with w written. Assumes nothing.
 use mathlib.Core.Path.{ap, _∙_}
 use Prim.Native.Nat.{ℕ, _+_}
 use lib.ListN.{set}
 use borrow.Author.Needs.{needs}
-use Rattle.storing.proofs.add_at.Statement.{statement}
-use Rattle.storing.proofs.add_at.Tie as tie
+use Rattle.in_place.proofs.add_at.Statement.{statement}
+use Rattle.in_place.proofs.add_at.Tie as tie
 
 number-at-requires : tie.Need-number-at-requires
 number-at-requires c κs = search needs

@@ -1,11 +1,11 @@
--- `storing::put_at` meets its contract: one number's bytes are replaced. Assumes nothing.
+-- `in_place::put_at` meets its contract: one number's bytes are replaced. Assumes nothing.
 use mathlib.Core.Path.{ap, _∙_}
 use native.Mathlib.Omega.{arith}
 use borrow.Author.Needs.{needs}
 use Rattle.codec.specs.Bytes.{decode}
 use Rattle.codec.specs.BytesLaws.{decode-sets}
-use Rattle.storing.proofs.put_at.Statement.{statement}
-use Rattle.storing.proofs.put_at.Tie as tie
+use Rattle.in_place.proofs.put_at.Statement.{statement}
+use Rattle.in_place.proofs.put_at.Tie as tie
 
 put8-requires : tie.Need-put8-requires
 put8-requires c κs = search needs

@@ -1,0 +1,31 @@
+// One number of the record, read, written or raised where it stands in the bytes.
+// Called by this repository's crates only: what a function requires, its callers meet.
+ghost use mathlib.Core.Path.{_≡_};
+ghost use Prim.Native.Nat.{_+_, _<_};
+ghost use lib.ListN.{length, getD, set};
+ghost use Rattle.codec.specs.Bytes.{decode};
+
+// Number `k` of the record, read where it stands.
+pub fn number_at(s: &[u8], k: usize) -> u64
+    requires { ⌜ (length (now s) ≡ 5752) × (k < 719) ⌝ }
+    ensures { λ r. ⌜ r ≡ getD (decode 8 719 (now (s .entry))) k 0 ⌝ }
+{
+    codec::number8(s, k * 8)
+}
+
+// Writes number `k` of the record where it stands; the others stay.
+pub fn put_at(s: &mut [u8], k: usize, w: u64)
+    requires { ⌜ (length (now s) ≡ 5752) × (k < 719) ⌝ }
+    ensures { λ _. ⌜ (decode 8 719 (now (s .exit)) ≡ set (decode 8 719 (now (s .entry))) k w) × (length (now (s .exit)) ≡ 5752) ⌝ }
+{
+    codec::put8(w, s, k);
+}
+
+// Adds to number `k` of the record where it stands.
+pub fn add_at(s: &mut [u8], k: usize, w: u64)
+    requires { ⌜ (length (now s) ≡ 5752) × ((k < 719) × (getD (decode 8 719 (now s)) k 0 + w < 18_446_744_073_709_551_616)) ⌝ }
+    ensures { λ _. ⌜ decode 8 719 (now (s .exit)) ≡ set (decode 8 719 (now (s .entry))) k (getD (decode 8 719 (now (s .entry))) k 0 + w) ⌝ }
+{
+    let sum = number_at(s, k) + w;
+    put_at(s, k, sum);
+}

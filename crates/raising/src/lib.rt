@@ -1,0 +1,68 @@
+// Numbers of a record's bytes raised where they stand: by the numbers of a list, and by the sums of its rows and columns.
+// Called by this repository's crates only: what a function requires, its callers meet.
+ghost use mathlib.Core.Path.{_≡_};
+ghost use Prim.Native.Nat.{_+_, _*_, _≤_};
+ghost use lib.ListN.{length, getD};
+ghost use Rattle.arrays.specs.Bounds.{mostFigure, Moderate};
+ghost use Rattle.layout_rules.specs.Raised.{from};
+ghost use Rattle.raising.specs.Raise.{rowSum, columnSum, Raised, mostRaised, Raisable};
+
+// The sum of row g of the rows of m numbers that start at `first`.
+pub fn row_sum(xs: &[u64], first: usize, m: usize, g: usize) -> u64
+    requires { ⌜ (first + (g * m + m) ≤ length (now xs)) × ((m ≤ 16) × Moderate (now xs)) ⌝ }
+    ensures { λ r. ⌜ r ≡ rowSum m (now (xs .entry)) first g ⌝ }
+{
+    let mut sum: u64 = 0;
+    let mut c: usize = 0;
+    while c < m {
+        sum += xs[first + (g * m + c)];
+        c += 1;
+    }
+    sum
+}
+
+// Each of these raises the numbers of the record from place `at` on: by readings, by the n numbers of `xs` that start at `first`,
+// and by the sums of the n rows and of the m columns that start there.
+pub fn raise_readings(s: &mut [u8], at: usize, readings: &[u32])
+    requires { ⌜ Raisable at (length (now readings)) mostRaised (now s) ⌝ }
+    ensures { λ _. ⌜ Raised (from at) (length (now (readings .entry))) (λ i. getD (now (readings .entry)) i 0) (now (s .entry)) (now (s .exit)) ⌝ }
+{
+    let mut i: usize = 0;
+    while i < readings.len() {
+        in_place::add_at(s, at + i, lists::wide(readings[i]));
+        i += 1;
+    }
+}
+
+pub fn raise_numbers(s: &mut [u8], at: usize, xs: &[u64], first: usize, n: usize)
+    requires { ⌜ Raisable at n mostRaised (now s) × ((first + n ≤ length (now xs)) × Moderate (now xs)) ⌝ }
+    ensures { λ _. ⌜ Raised (from at) n (λ i. getD (now (xs .entry)) (first + i) 0) (now (s .entry)) (now (s .exit)) ⌝ }
+{
+    let mut i: usize = 0;
+    while i < n {
+        in_place::add_at(s, at + i, xs[first + i]);
+        i += 1;
+    }
+}
+
+pub fn raise_rows(s: &mut [u8], at: usize, xs: &[u64], first: usize, n: usize, m: usize)
+    requires { ⌜ Raisable at n mostRaised (now s) × ((first + n * m ≤ length (now xs)) × ((m ≤ 16) × Moderate (now xs))) ⌝ }
+    ensures { λ _. ⌜ Raised (from at) n (rowSum m (now (xs .entry)) first) (now (s .entry)) (now (s .exit)) ⌝ }
+{
+    let mut g: usize = 0;
+    while g < n {
+        in_place::add_at(s, at + g, row_sum(xs, first, m, g));
+        g += 1;
+    }
+}
+
+pub fn raise_columns(s: &mut [u8], at: usize, xs: &[u64], first: usize, n: usize, m: usize)
+    requires { ⌜ Raisable at m mostFigure (now s) × ((first + n * m ≤ length (now xs)) × ((n ≤ 8) × Moderate (now xs))) ⌝ }
+    ensures { λ _. ⌜ Raised (from at) m (columnSum n m (now (xs .entry)) first) (now (s .entry)) (now (s .exit)) ⌝ }
+{
+    let mut g: usize = 0;
+    while g < n {
+        raise_numbers(s, at, xs, first + g * m, m);
+        g += 1;
+    }
+}
