@@ -4,7 +4,6 @@ pub mod Put
 pub mod PutLaws
 pub mod Written
 pub mod Rows
-pub mod Columns
 pub mod Added
 pub mod AddedLaws
 pub mod Stretches

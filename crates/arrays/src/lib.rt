@@ -7,7 +7,6 @@ ghost use Rattle.lists.specs.Tables.{table};
 ghost use Rattle.lists.specs.Pairs.{place, cell, pairs};
 ghost use Rattle.arrays.specs.Bounds.{Room};
 ghost use Rattle.arrays.specs.Put.{Put};
-ghost use Rattle.arrays.specs.Columns.{ColumnPut};
 
 pub fn add8(a: [u64; 8], b: [u64; 8]) -> [u64; 8]
     requires { ⌜ Room 8 a b ⌝ }
@@ -90,30 +89,4 @@ pub fn put16(out: &mut [u64], at: usize, xs: &[u64; 16], n: usize)
 {
     let end = at + n;
     write_list(&mut out[at..end], xs);
-}
-
-// Column c of a pair list.
-pub fn column(m: &[u64; 128], c: usize) -> [u64; 8]
-    requires { ⌜ c < 16 ⌝ }
-    ensures { λ r. ⌜ r ≡ table 8 (λ g. cell 8 16 (now (m .entry)) g c) ⌝ }
-{
-    let mut out = [0u64; 8];
-    let mut g: usize = 0;
-    while g < 8 {
-        out[g] = m[g * 16 + c];
-        g += 1;
-    }
-    out
-}
-
-// Puts eight numbers into column c.
-pub fn put_column(m: &mut [u64; 128], c: usize, xs: [u64; 8])
-    requires { ⌜ (c < 16) × (length (now m) ≡ 128) ⌝ }
-    ensures { λ r. ⌜ ColumnPut (now (m .entry)) c xs 8 (now (m .exit)) ⌝ }
-{
-    let mut g: usize = 0;
-    while g < 8 {
-        m[g * 16 + c] = xs[g];
-        g += 1;
-    }
 }

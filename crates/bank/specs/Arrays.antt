@@ -8,7 +8,7 @@ use Rattle.lists.specs.Tables.{table}
 use Rattle.lists.specs.Pairs.{place, cell, pairs}
 use Rattle.energy.specs.Energy.{portionUp}
 use Rattle.energy.specs.Limits.{mostRate}
-use Rattle.order.specs.Settle.{given, kept, unmet}
+use Rattle.settling.specs.Settle.{given, kept, unmet}
 use Rattle.delivery.specs.Plan.{Plan, suppliers}
 use Rattle.bank.specs.Drawing.{stockAt, drawnAt, missingAt}
 use Rattle.bank.specs.declared.Bank.{Bank}

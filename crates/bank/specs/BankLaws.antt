@@ -13,9 +13,9 @@ use Rattle.energy.specs.Energy.{portionUp}
 use Rattle.energy.specs.EnergyLaws.{portion-le}
 use Rattle.order.specs.Order.{only, inOrder}
 use Rattle.order.specs.Members.{Below}
-use Rattle.order.specs.Settle.{given, kept, unmet}
+use Rattle.settling.specs.Settle.{given, kept, unmet}
 use Rattle.order.specs.Arrays.{column-read}
-use Rattle.order.specs.Settling.{Settled, settled, settledBy, settled-table}
+use Rattle.settling.specs.Settling.{Settled, settled, settledBy, settled-table}
 use Rattle.bank.specs.declared.Bank.{Bank}
 use Rattle.bank.specs.declared.Credit.{Credit}
 use Rattle.bank.specs.declared.Draw.{Draw}

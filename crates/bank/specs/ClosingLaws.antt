@@ -15,8 +15,8 @@ use Rattle.energy.specs.Energy.{portionUp}
 use Rattle.energy.specs.EnergyLaws.{portion-le}
 use Rattle.order.specs.Members.{In, order-in, only-in}
 use Rattle.order.specs.OrderLaws.{Ahead, order-sorted, only-sorted}
-use Rattle.order.specs.Settle.{given, kept, unmet}
-use Rattle.order.specs.SettleLaws.{given-sum, given-le, given-all, kept-is, earlier-first}
+use Rattle.settling.specs.Settle.{given, kept, unmet}
+use Rattle.settling.specs.SettleLaws.{given-sum, given-le, given-all, kept-is, earlier-first}
 use Rattle.delivery.specs.Plan.{Plan, order, suppliers}
 use Rattle.delivery.specs.DeliveryLaws.{suppliers-within}
 use Rattle.record.specs.Book.{Book}

@@ -1,6 +1,6 @@
 -- Step 2 of a closing: consumers draw, one after the other, on what the generators have banked. Assumes nothing.
 use Prim.Native.Nat.{ℕ, zero, suc}
-use Rattle.order.specs.Settle.{given, kept, unmet}
+use Rattle.settling.specs.Settle.{given, kept, unmet}
 use Rattle.delivery.specs.Plan.{Plan, suppliers}
 
 -- stock by generator at first, and what each consumer wants

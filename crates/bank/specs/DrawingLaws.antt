@@ -10,8 +10,8 @@ use Rattle.lists.specs.Tables.{table, Filling, fill-start, fill-step, fill-rest
 use Rattle.lists.specs.Pairs.{place, cell}
 use Rattle.energy.specs.Limits.{mostRank}
 use Rattle.order.specs.Members.{below-more}
-use Rattle.order.specs.Settle.{given}
-use Rattle.order.specs.SettleLaws.{given-sum, unmet-le, kept-is}
+use Rattle.settling.specs.Settle.{given}
+use Rattle.settling.specs.SettleLaws.{given-sum, unmet-le, kept-is}
 use Rattle.delivery.specs.Plan.{Plan, suppliers}
 use Rattle.delivery.specs.DeliveryLaws.{suppliers-within}
 use Rattle.bank.specs.Drawing.{stockAt, drawnAt, missingAt}
@@ -21,7 +21,8 @@ use Rattle.bank.specs.declared.Drawing.{Drawing}
 use Rattle.bank.specs.Arrays.{drawOf, drawingOf}
 use Rattle.bank.specs.BankLaws.{balances, drawn-by-rule}
 use Rattle.arrays.specs.AddedLaws.{at-table}
-use Rattle.arrays.specs.Columns.{ColumnPut, Columns, columns-start, columns-step, columns-pairs}
+use Rattle.columns.specs.Columns.{ColumnPut, Columns}
+use Rattle.columns.specs.ColumnsLaws.{columns-start, columns-step, columns-pairs}
 
 -- what a sound record gives: ranks within their limit, and nobody beyond the m consumers who wants anything
 pub record Drawable (n m : ℕ) (rank outstanding : List ℕ) : Type 0 where
@@ -61,7 +62,7 @@ module _ (p : Plan) (has want : ℕ → ℕ) where
     pub supplied-is : Filling 16 (missingAt p has want) (replicate 16 0) c supplied
 
   pub drawing-step : {c open′ : ℕ} {left : Bank} {drawn drawn′ supplied : List ℕ} {d : Draw} → p .G ≤ 8 → c < 16 → Drawn c left drawn supplied → open′ ≡ want c →
-      d ≡ drawOf left (suppliers p c) open′ → ColumnPut drawn c (d .drawn) 8 drawn′ → Drawn (c + 1) (d .bank) drawn′ (set supplied c (d .left))
+      d ≡ drawOf left (suppliers p c) open′ → ColumnPut 8 16 drawn c (d .drawn) 8 drawn′ → Drawn (c + 1) (d .bank) drawn′ (set supplied c (d .left))
   unfolding stockAt drawnAt missingAt
   drawing-step {c} {open′} {left} {drawn} {drawn′} {supplied} {d} few l h w e put =
       let gs = suppliers p c in

@@ -74,14 +74,16 @@ impl Bank {
         requires { ⌜ (c < 16) × ((n ≤ 8) × ((g : ℕ) → cell 8 16 (now rank) g c ≤ mostRank)) ⌝ }
         ensures { λ r. ⌜ r ≡ drawOf self (only (λ g. eqb (cell 8 16 (now (link .entry)) g c) 1) (inOrder (λ g. cell 8 16 (now (rank .entry)) g c) n)) want ⌝ }
     {
-        let ranks = arrays::column(rank, c);
-        let links = arrays::column(link, c);
+        let mut ranks = [0u64; 8];
+        columns::get_column(rank, 8, 16, c, &mut ranks);
+        let mut links = [0u64; 8];
+        columns::get_column(link, 8, 16, c, &mut links);
         let turns = order::in_order(ranks, n);
         let linked = order::keep(turns, n, links);
         let at = linked.at;
         let mut stock = self.balance;
         let mut drawn = [0u64; 8];
-        let left = order::settle(&at, linked.count, &mut stock, &mut drawn, want);
+        let left = settling::settle(&at, linked.count, &mut stock, &mut drawn, want);
         let bank = Bank { balance: stock };
         Draw { bank, drawn, left }
     }
@@ -115,22 +117,22 @@ pub fn draw_all<'a>(
     requires { ⌜ Drawable n m (now rank) outstanding ⌝ }
     ensures { λ r. ⌜ r ≡ drawingOf (linkPlan n m (now (rank .entry)) (now (link .entry))) bank outstanding ⌝ }
 {
-    let mut all = Drawing {
-        bank,
-        drawn: [0u64; 128],
-        supplied: [0u64; 16],
-    };
+    let mut drawn = [0u64; 128];
+    let mut supplied = [0u64; 16];
     let mut left = bank;
     let mut c: usize = 0;
     while c < m {
         let turn = left.draw(n, rank, link, c, outstanding[c]);
         let column = turn.drawn;
         let next = turn.bank;
-        arrays::put_column(&mut all.drawn, c, column);
-        all.supplied[c] = turn.left;
+        columns::put_column(&mut drawn, 8, 16, c, &column);
+        supplied[c] = turn.left;
         left = next;
         c += 1;
     }
-    all.bank = left;
-    all
+    Drawing {
+        bank: left,
+        drawn,
+        supplied,
+    }
 }

@@ -6,7 +6,7 @@ use lib.ListN.{length, getD, set}
 use Rattle.delivery.specs.Plan.{Plan}
 use Rattle.delivery.specs.Delivery.{unaccounted, lossOf, delivered, atExit}
 use Rattle.settlement.specs.Settlement.{setOff, underdrawn, shortfall, remainder}
-use Rattle.block_settlement.specs.Columns.{ColumnAt}
+use Rattle.columns.specs.Columns.{ColumnAt}
 
 -- The first i consumers are settled; the others are as rules 1 to 4 leave them.
 pub record SettledTo (p : Plan) (E R : ℕ → ℕ) (i : ℕ) (out : List ℕ) : Type 0 where

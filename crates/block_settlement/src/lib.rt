@@ -8,49 +8,7 @@ ghost use Rattle.delivery.specs.DeliveredIn.{DeliveredIn};
 ghost use Rattle.settlement.specs.Settlement.{blockOutput};
 ghost use Rattle.layout_rules.specs.OnBytes.{planIn};
 ghost use Rattle.block_settlement.specs.Bytes.{exitsIn, Ranked};
-ghost use Rattle.block_settlement.specs.Columns.{ColumnGot, ColumnPut, ColumnAt};
 ghost use Rattle.block_settlement.specs.SettledTo.{SettledTo, ConsumerPut};
-
-// Reads column c of a list of n rows of m numbers into an array, which is lent so that it is not copied.
-fn get_column(list: &[u64], n: usize, m: usize, c: usize, xs: &mut [u64; 8])
-    requires { ⌜ (length (now list) ≡ n * m) × ((n ≤ 8) × ((m ≤ 16) × ((c < m) × (length (now xs) ≡ 8)))) ⌝ }
-    ensures { λ _. ⌜ ColumnGot n m 0 c (now (list .entry)) (now (xs .exit)) ⌝ }
-{
-    let mut g: usize = 0;
-    while g < n {
-        xs[g] = list[g * m + c];
-        g += 1;
-    }
-}
-
-// Puts a number for each of the n rows into column c.
-fn put_column(list: &mut [u64], n: usize, m: usize, c: usize, xs: &[u64; 8])
-    requires { ⌜ (length (now list) ≡ n * m) × ((n ≤ 8) × ((m ≤ 16) × (c < m))) ⌝ }
-    ensures { λ _. ⌜ ColumnPut n m (now (list .entry)) c (now (xs .entry)) n (now (list .exit)) ⌝ }
-{
-    let mut g: usize = 0;
-    while g < n {
-        list[g * m + c] = xs[g];
-        g += 1;
-    }
-}
-
-// The same two where the list is a stretch of the output, which starts at place `from`.
-fn get_column_at(out: &[u64], from: usize, n: usize, m: usize, c: usize, xs: &mut [u64; 8])
-    requires { ⌜ (from + n * m ≤ length (now out)) × ((n ≤ 8) × ((m ≤ 16) × ((c < m) × (length (now xs) ≡ 8)))) ⌝ }
-    ensures { λ _. ⌜ ColumnGot n m from c (now (out .entry)) (now (xs .exit)) ⌝ }
-{
-    let to = from + n * m;
-    get_column(&out[from..to], n, m, c, xs);
-}
-
-fn put_column_at(out: &mut [u64], from: usize, n: usize, m: usize, c: usize, xs: &[u64; 8])
-    requires { ⌜ (from + n * m ≤ length (now out)) × ((n ≤ 8) × ((m ≤ 16) × (c < m))) ⌝ }
-    ensures { λ _. ⌜ ColumnAt n m from c (now (xs .entry)) (now (out .entry)) (now (out .exit)) ⌝ }
-{
-    let to = from + n * m;
-    put_column(&mut out[from..to], n, m, c, xs);
-}
 
 // The ranks of the generators for consumer c, read where they stand.
 fn ranks_of(s: &[u8], c: usize) -> [u64; 8]
@@ -82,9 +40,9 @@ fn put_settled(
     ensures { λ _. ⌜ ConsumerPut n m c (now (setoff .entry)) (now (underdrawn .entry)) (now (shortfall .entry)) remainder (now (out .entry)) (now (out .exit)) ⌝ }
 {
     let size = n * m;
-    put_column_at(out, size, n, m, c, setoff);
-    put_column_at(out, 2 * size, n, m, c, underdrawn);
-    put_column_at(out, 3 * size, n, m, c, shortfall);
+    columns::put_column_at(out, size, n, m, c, setoff);
+    columns::put_column_at(out, 2 * size, n, m, c, underdrawn);
+    columns::put_column_at(out, 3 * size, n, m, c, shortfall);
     out[4 * size + n + c] = remainder;
 }
 
@@ -97,13 +55,13 @@ fn settle_one(s: &[u8], n: usize, m: usize, c: usize, read: u64, out: &mut [u64]
     let turns = order::in_order(ranks, n);
     let size = n * m;
     let mut has = [0u64; 8];
-    get_column_at(out, 2 * size, n, m, c, &mut has);
+    columns::get_column_at(out, 2 * size, n, m, c, &mut has);
     let mut taken = [0u64; 8];
-    let left = order::settle(&turns, n, &mut has, &mut taken, read);
+    let left = settling::settle(&turns, n, &mut has, &mut taken, read);
     let mut gap = [0u64; 8];
-    get_column_at(out, 3 * size, n, m, c, &mut gap);
+    columns::get_column_at(out, 3 * size, n, m, c, &mut gap);
     let mut short = [0u64; 8];
-    let rest = order::settle(&turns, n, &mut gap, &mut short, left);
+    let rest = settling::settle(&turns, n, &mut gap, &mut short, left);
     put_settled(out, n, m, c, &taken, &has, &short, rest);
 }
 

@@ -12,7 +12,7 @@ use Rattle.lists.specs.Tables.{table, getD-table, table-same}
 use Rattle.lists.specs.Pairs.{place, pairs}
 use Rattle.lists.specs.PairsLaws.{place-in, place-out, place-table}
 use Rattle.arrays.specs.AddedLaws.{at-table}
-use Rattle.order.specs.Settle.{given, kept, unmet}
+use Rattle.settling.specs.Settle.{given, kept, unmet}
 use Rattle.delivery.specs.Plan.{Plan, order, suppliers}
 use Rattle.record.specs.Book.{Book}
 use Rattle.record.specs.Stored.{generatorAt, consumerAt, planOf, figures}

@@ -118,3 +118,9 @@ table-bound n f b h i =
     (λ (e : n - i ≡ 0). omega (arith, List·getD-eq-default (table n f) 0 {n = i} (omega (arith, length-table n f))))
     (λ (p : 0 < n - i). let l : i < n = omega arith in omega (arith, getD-table n f i 0 l, h i l))
     (eq-zero-or-pos (n - i))
+
+-- no number of a list of zeros is any but 0
+pub zeros-at : (n i : ℕ) → getD {A = ℕ} (replicate n 0) i 0 ≡ 0
+zeros-at zero i = refl
+zeros-at (suc n) zero = refl
+zeros-at (suc n) (suc i) = zeros-at n i

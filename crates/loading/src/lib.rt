@@ -1,10 +1,10 @@
 // Reads the record's parts from its bytes. Called by this repository's crates only: what a function requires, its callers meet.
 ghost use mathlib.Core.Path.{_≡_};
-ghost use Prim.Native.Nat.{_+_, _≤_, _<_};
+ghost use Prim.Native.Nat.{_+_, _≤_};
 ghost use lib.ListN.{length};
 ghost use Rattle.codec.specs.Bytes.{decode};
 ghost use Rattle.record.specs.Words.{recordOf};
-ghost use Rattle.layout_rules.specs.Layout.{run, columnOf};
+ghost use Rattle.layout_rules.specs.Layout.{run};
 
 // Reads as many numbers as `out` has, from place `at` on.
 fn load_run(s: &[u8], at: usize, out: &mut [u64])
@@ -44,20 +44,6 @@ pub fn load_pairs(s: &[u8], at: usize) -> [u64; 128]
     out
 }
 
-// Number `k` of each of 8 rows of 3.
-fn column(rows: [u64; 24], k: usize) -> [u64; 8]
-    requires { ⌜ k < 3 ⌝ }
-    ensures { λ r. ⌜ r ≡ columnOf rows k ⌝ }
-{
-    let mut out = [0u64; 8];
-    let mut g: usize = 0;
-    while g < 8 {
-        out[g] = rows[g * 3 + k];
-        g += 1;
-    }
-    out
-}
-
 pub fn load_terms(s: &[u8]) -> record::Terms
     requires { ⌜ length (now s) ≡ 5752 ⌝ }
     ensures { λ r. ⌜ r ≡ recordOf (decode 8 719 (now (s .entry))) .terms ⌝ }
@@ -91,9 +77,9 @@ pub fn load_agreed(s: &[u8]) -> record::Agreed
 {
     let mut rows = [0u64; 24];
     load_run(s, layout_rules::AGREED, &mut rows);
-    let kind = column(rows, 0);
-    let installed = column(rows, 1);
-    let contracted = column(rows, 2);
+    let kind = agreed_rows::column(rows, 0);
+    let installed = agreed_rows::column(rows, 1);
+    let contracted = agreed_rows::column(rows, 2);
     record::Agreed {
         kind,
         installed,

@@ -5,59 +5,10 @@ ghost use lib.ListN.{length};
 ghost use Rattle.energy.specs.Limits.{mostGenerators, mostConsumers};
 ghost use Rattle.record.specs.Book.{noInjection, noConsumption};
 ghost use Rattle.record.specs.Stored.{storedGenerators, storedConsumers, stored, zeros};
-ghost use Rattle.agreement_rules.specs.Opening.{openingRefusal, opened, Opened, Permitted};
+ghost use Rattle.agreement_rules.specs.Opening.{opened, Opened, Permitted};
 ghost use Rattle.agreement_rules.specs.Reading.{Threes};
-ghost use Rattle.agreement_rules.specs.Refusing.{asked, sizesFit, termsFit};
+ghost use Rattle.agreement_rules.specs.Refusing.{asked};
 ghost use Rattle.agreement_rules.specs.Storing.{agreedFrom, linksFrom, firstSchedule};
-
-// ---- the number; tests are joined by & and |, which do not branch
-
-fn sizes_fit(n: usize, m: usize, generator_list: &[u32], pair_list: &[u32]) -> bool
-    ensures { λ r. ⌜ r ≡ sizesFit n m (now («generator_list» .entry)) (now («pair_list» .entry)) ⌝ }
-{
-    if ((1 <= n) & (n <= 8)) & ((1 <= m) & (m <= 16)) {
-        (generator_list.len() == 3 * n) & (pair_list.len() == 2 * (n * m))
-    } else {
-        false
-    }
-}
-
-fn terms_fit(rate: u32, cycle: u32, gone: u32) -> bool
-    ensures { λ r. ⌜ r ≡ termsFit rate cycle gone ⌝ }
-{
-    (lists::wide(rate) <= record::MOST_RATE)
-        & ((1 <= cycle) & (lists::wide(cycle) <= record::MOST_CYCLE))
-        & (gone < cycle)
-}
-
-// The number of an opening: 3 to 6 are tested where the lists have the lengths that are read.
-fn opening_refusal(
-    n: usize,
-    m: usize,
-    rate: u32,
-    cycle: u32,
-    gone: u32,
-    generator_list: &[u32],
-    pair_list: &[u32],
-) -> u32
-    ensures { λ r. ⌜ r ≡ openingRefusal (asked n m rate cycle gone (now («generator_list» .entry)) (now («pair_list» .entry))) ⌝ }
-{
-    if sizes_fit(n, m, generator_list, pair_list) {
-        let count = n * m;
-        let kind = agreed_lists::column_over(generator_list, n, 0, record::LAST_KIND);
-        let capacity = agreed_lists::column_over(generator_list, n, 1, energy::MOST_CAPACITY)
-            | agreed_lists::column_over(generator_list, n, 2, energy::MOST_CAPACITY);
-        let pair = agreed_lists::any_outside(pair_list, 0, count, 0, 1)
-            | agreed_lists::any_outside(pair_list, count, count, 0, record::MOST_LOSS);
-        let term = !terms_fit(rate, cycle, gone);
-        let later = lists::first(pair, 5, lists::first(term, 6, 0));
-        lists::first(kind, 3, lists::first(capacity, 4, later))
-    } else {
-        2
-    }
-}
-
-// ---- the record
 
 fn agreed_from(n: usize, list: &[u32]) -> record::Agreed
     requires { ⌜ Threes (now list) n 0 ⌝ }
@@ -216,7 +167,7 @@ pub fn opening(
 {
     let n = generators as usize;
     let m = consumers as usize;
-    let number = opening_refusal(n, m, rate, cycle, gone, generator_list, pair_list);
+    let number = opening_refusal::refusal(n, m, rate, cycle, gone, generator_list, pair_list);
     if number == 0 {
         let after = opened_record(n, m, rate, cycle, gone, generator_list, pair_list);
         record::Answer { number: 0, after }

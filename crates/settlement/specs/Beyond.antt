@@ -7,7 +7,7 @@ use native.Mathlib.Omega.{arith}
 use Rattle.lists.specs.Choice.{if_then_else_}
 use Rattle.energy.specs.Energy.{quarterHour, lossOn}
 use Rattle.energy.specs.EnergyLaws.{loss-zero}
-use Rattle.order.specs.SettleLaws.{unmet-le}
+use Rattle.settling.specs.SettleLaws.{unmet-le}
 use Rattle.delivery.specs.Plan.{Plan, deemed, order}
 use Rattle.delivery.specs.Delivery.{unaccounted, lossOf, delivered, atExit}
 use Rattle.delivery.specs.Deliverable.{Deliverable}

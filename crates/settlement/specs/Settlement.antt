@@ -3,7 +3,7 @@ use Prim.Native.Nat.{ℕ, _-_}
 use mathlib.Core.List.{List, [], _∷_}
 use Rattle.lists.specs.Tables.{table}
 use Rattle.lists.specs.Pairs.{pairs, joined}
-use Rattle.order.specs.Settle.{given, unmet}
+use Rattle.settling.specs.Settle.{given, unmet}
 use Rattle.delivery.specs.Plan.{Plan, order}
 use Rattle.delivery.specs.Delivery.{unaccounted, lossOf, delivered, atExit}
 

@@ -6,8 +6,8 @@ use native.Mathlib.Omega.{arith}
 use Rattle.lists.specs.Sums.{sum, sum-cong, sum-add}
 use Rattle.order.specs.Members.{order-in}
 use Rattle.order.specs.OrderLaws.{Ahead, order-sorted}
-use Rattle.order.specs.Settle.{given, unmet}
-use Rattle.order.specs.SettleLaws.{given-sum, given-le, earlier-first}
+use Rattle.settling.specs.Settle.{given, unmet}
+use Rattle.settling.specs.SettleLaws.{given-sum, given-le, earlier-first}
 use Rattle.delivery.specs.Plan.{Plan, order}
 use Rattle.delivery.specs.Delivery.{counted, unaccounted, partOf, lossOf, delivered, atExit}
 use Rattle.delivery.specs.DeliveryLaws.{order-within, counted-le, parts, lossOf-le}

@@ -1,6 +1,6 @@
 // Stores the record's parts into its bytes. Called by this repository's crates only: what a function requires, its callers meet.
 ghost use mathlib.Core.Path.{_≡_};
-ghost use Prim.Native.Nat.{_+_, _≤_, _<_};
+ghost use Prim.Native.Nat.{_+_, _≤_};
 ghost use lib.ListN.{length};
 ghost use Rattle.codec.specs.Bytes.{encode, decode};
 ghost use Rattle.record.specs.Words.{words, recordOf};
@@ -27,21 +27,6 @@ fn store128(run: [u64; 128], s: &mut [u8], at: usize)
     codec::put8s(&run, s, at);
 }
 
-// Kind, installed and contracted of each generator, side by side.
-fn rows(t: record::Agreed) -> [u64; 24]
-    ensures { λ r. ⌜ r ≡ agreedRun t ⌝ }
-{
-    let mut out = [0u64; 24];
-    let mut g: usize = 0;
-    while g < 8 {
-        out[g * 3] = t.kind[g];
-        out[g * 3 + 1] = t.installed[g];
-        out[g * 3 + 2] = t.contracted[g];
-        g += 1;
-    }
-    out
-}
-
 fn store_terms(t: record::Terms, s: &mut [u8])
     requires { ⌜ length (now s) ≡ 5752 ⌝ }
     ensures { λ _. ⌜ Laid 0 4 (termsRun t) (now (s .entry)) (now (s .exit)) ⌝ }
@@ -62,7 +47,7 @@ fn store_agreed(t: record::Agreed, s: &mut [u8])
     requires { ⌜ length (now s) ≡ 5752 ⌝ }
     ensures { λ _. ⌜ Laid 7 31 (agreedRun t) (now (s .entry)) (now (s .exit)) ⌝ }
 {
-    let run = rows(t);
+    let run = agreed_rows::rows(t);
     codec::put8s(&run, s, layout_rules::AGREED);
 }
 

@@ -10,7 +10,7 @@ use Rattle.lists.specs.Refusals.{firstOf}
 use Rattle.energy.specs.Energy.{portionUp, lossOn}
 use Rattle.energy.specs.Share.{part}
 use Rattle.order.specs.Order.{span, insert, sort, only, ahead, inOrder}
-use Rattle.order.specs.Settle.{lower, settle, given, kept, unmet}
+use Rattle.settling.specs.Settle.{lower, settle, given, kept, unmet}
 use Rattle.delivery.specs.Plan.{Plan, deemed, scheduled, order, suppliers}
 use Rattle.delivery.specs.Delivery.{counted, unaccounted, partOf, lossOf, delivered, atExit}
 use Rattle.settlement.specs.Settlement.{setOff, afterSetOff, underdrawn, shortfall, remainder, blockLists, blockOutput}

@@ -12,11 +12,11 @@ use Rattle.bank.proofs.draw_all.Statement.{statement}
 use Rattle.bank.proofs.draw_all.Tie as tie
 
 abbrev Inv-loop : tie.InvT-loop
-Inv-loop n m rank link outstanding all₀ left₀ c₀ all left c =
-    Drawn (linkPlan n m rank link) (place 8 (left₀ .balance)) (place 16 outstanding) c left (all .drawn) (all .supplied) × (c ≤ m)
+Inv-loop n m rank link outstanding drawn₀ supplied₀ left₀ c₀ drawn supplied left c =
+    Drawn (linkPlan n m rank link) (place 8 (left₀ .balance)) (place 16 outstanding) c left drawn supplied × (c ≤ m)
 
 abbrev μ-loop : tie.MeasureT-loop
-μ-loop n m rank link outstanding all₀ left₀ c₀ all left c = m - c
+μ-loop n m rank link outstanding drawn₀ supplied₀ left₀ c₀ drawn supplied left c = m - c
 
 loop-holds : tie.Need-loop-holds Inv-loop μ-loop
 loop-holds c = (drawing-start _ _ _ (search needs), search needs)
@@ -32,14 +32,17 @@ draw-requires c κs =
     let p = c .before .before .pre in
     (search needs, (p .G-high, λ g. p .rank-high g (c .before .loop .c)))
 
+slice-aggregate-put-column : tie.Need-slice-aggregate-put-column Inv-loop μ-loop
+slice-aggregate-put-column c = search needs
+
 put-column-requires : tie.Need-put-column-requires Inv-loop μ-loop
 put-column-requires c κs = search needs
 
-mul-all : tie.Need-mul-all Inv-loop μ-loop
-mul-all c = search needs
+mul-supplied : tie.Need-mul-supplied Inv-loop μ-loop
+mul-supplied c = search needs
 
-element-write-all : tie.Need-element-write-all Inv-loop μ-loop
-element-write-all c = search needs
+array-write-supplied : tie.Need-array-write-supplied Inv-loop μ-loop
+array-write-supplied c = search needs
 
 add-c : tie.Need-add-c Inv-loop μ-loop
 add-c c = search needs
@@ -50,12 +53,13 @@ loop-less c = search needs
 loop-again : tie.Need-loop-again Inv-loop μ-loop
 unfolding linkPlan order suppliers
 loop-again c =
-    let drew = c .before .before .before .before in
+    let put = c .before in
+    let drew = put .before .before .before .before .before in
     let turn = drew .before in
     let l = turn .before .loop in
     let s = turn .before .before in
     let b : l .c < 16 = omega (arith, turn .loop-test .taken, s .pre .C-high) in (
-      drawing-step (linkPlan (s .args .n) (s .args .m) (s .args .rank .now) (s .args .link .now)) _ _ (s .pre .G-high) b (l .inv .0) (sym (place-in 16 _ _ b)) (drew .draw .ensures) (c .put-column .ensures),
+      drawing-step (linkPlan (s .args .n) (s .args .m) (s .args .rank .now) (s .args .link .now)) _ _ (s .pre .G-high) b (l .inv .0) (sym (place-in 16 _ _ b)) (drew .draw .ensures) (put .put-column .ensures),
       omega (arith, turn .loop-test .taken),
     )
 
@@ -77,9 +81,10 @@ draw-all-spec =
     mul-draw
     array-read-draw
     draw-requires
+    slice-aggregate-put-column
     put-column-requires
-    mul-all
-    element-write-all
+    mul-supplied
+    array-write-supplied
     add-c
     loop-less
     loop-again

@@ -25,8 +25,8 @@ unfolding figures planOf
 high c = let f = record-facts _ (passed c) .counts in (f .G-high, f .C-high)
 
 -- the code's number is that of the rules
-number : (c : tie.After-schedule-refusal) → let a = c .before .before .before .before .before .before .before .before .args in c .schedule-refusal .result ≡ scheduleRefusal (a .kws .now) (a .ranks .now) (figures (a .t1))
-number c = c .schedule-refusal .ensures ∙ refusal-figures _ _ _
+number : (c : tie.After-refusal) → let a = c .before .before .before .before .before .before .before .before .args in c .refusal .result ≡ scheduleRefusal (a .kws .now) (a .ranks .now) (figures (a .t1))
+number c = c .refusal .ensures ∙ refusal-figures _ _ _
 
 none : (c : tie.Then2) → let a = c .before .before .before .before .before .before .before .before .before .args in scheduleRefusal (a .kws .now) (a .ranks .now) (figures (a .t1)) ≡ 0
 none c = sym (number (c .before)) ∙ c .if2 .taken
@@ -36,8 +36,8 @@ sizes : (c : tie.Then2) → let a = c .before .before .before .before .before .b
 unfolding figures planOf
 sizes c = let s = accepted-schedulable _ _ _ (none c) in (s .kws-size, s .ranks-size)
 
-schedule-refusal-requires : tie.Need-schedule-refusal-requires
-schedule-refusal-requires c κs = high (c .before .before .before .before)
+refusal-requires : tie.Need-refusal-requires
+refusal-requires c κs = high (c .before .before .before .before)
 
 schedule-from-requires : tie.Need-schedule-from-requires
 schedule-from-requires c κs = let h = high (c .before .before .before .before .before .before) in let s = sizes c in
@@ -57,7 +57,7 @@ pub schedule-on-spec : {M : Type 1} → statement M
 schedule-on-spec =
     tie.close
     (tie.spec
-    schedule-refusal-requires
+    refusal-requires
     schedule-from-requires
     returns
     returns-2
