@@ -7,3 +7,4 @@ pub mod OnBytesLaws
 pub mod Kept
 pub mod Raised
 pub mod PartsLaws
+pub mod Replaced
