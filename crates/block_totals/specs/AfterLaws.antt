@@ -28,7 +28,7 @@ use Rattle.record.specs.Shape.{Shape}
 use Rattle.record.specs.SoundLaws.{Facts}
 use Rattle.record.specs.Words.{runLengths, total, words, cut, fromRuns, recordOf}
 use Rattle.record.specs.declared.Record.{Record}
-use Rattle.layout_rules.specs.Raised.{raised, from, raised-either, raised-other, list-raised}
+use Rattle.layout_rules.specs.Raised.{raised, from, raised-run, raised-either, raised-other, list-raised}
 use Rattle.layout_rules.specs.LayoutLaws.{bytes-of-record}
 use Rattle.layout_rules.specs.Places.{kind-place}
 use Rattle.layout_rules.specs.Kept.{record-shape, read-kept, numbers-low}

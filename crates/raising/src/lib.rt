@@ -72,10 +72,10 @@ pub fn replace_numbers(s: &mut [u8], at: usize, xs: &[u64], first: usize, n: usi
     requires { ⌜ Replaceable at n (now s) × (first + n ≤ length (now xs)) ⌝ }
     ensures { λ _. ⌜ Replaced (from at) n (λ i. getD (now (xs .entry)) (first + i) 0) (now (s .entry)) (now (s .exit)) ⌝ }
 {
-    let mut i: usize = 0;
-    while i < n {
-        in_place::put_at(s, at + i, xs[first + i]);
-        i += 1;
+    let mut k: usize = 0;
+    while k < n {
+        in_place::put_at(s, at + k, xs[first + k]);
+        k += 1;
     }
 }
 
@@ -83,9 +83,9 @@ pub fn clear_numbers(s: &mut [u8], at: usize, n: usize)
     requires { ⌜ Replaceable at n (now s) ⌝ }
     ensures { λ _. ⌜ Replaced (from at) n (λ i. 0) (now (s .entry)) (now (s .exit)) ⌝ }
 {
-    let mut i: usize = 0;
-    while i < n {
-        in_place::put_at(s, at + i, 0);
-        i += 1;
+    let mut k: usize = 0;
+    while k < n {
+        in_place::put_at(s, at + k, 0);
+        k += 1;
     }
 }

@@ -10,10 +10,10 @@ use Rattle.raising.proofs.clear_numbers.Statement.{statement}
 use Rattle.raising.proofs.clear_numbers.Tie as tie
 
 abbrev Inv-loop : tie.InvT-loop
-Inv-loop s₀ at n i₀ s i = (i ≤ n) × Replaced (from at) i (λ j. 0) s₀ s
+Inv-loop s₀ at n k₀ s k = (k ≤ n) × Replaced (from at) k (λ j. 0) s₀ s
 
 abbrev μ-loop : tie.MeasureT-loop
-μ-loop s₀ at n i₀ s i = n - i
+μ-loop s₀ at n k₀ s k = n - k
 
 loop-holds : tie.Need-loop-holds Inv-loop μ-loop
 loop-holds c = (omega arith, none-replaced)
@@ -26,8 +26,8 @@ put-at-requires c κs = let l = c .before .before .loop in
     let able = c .before .before .before .before .pre in
     (l .inv .1 .size ∙ able .size, omega (arith, able .placed))
 
-add-i : tie.Need-add-i Inv-loop μ-loop
-add-i c = search needs
+add-k : tie.Need-add-k Inv-loop μ-loop
+add-k c = search needs
 
 loop-less : tie.Need-loop-less Inv-loop μ-loop
 loop-less c = search needs
@@ -52,7 +52,7 @@ clear-numbers-spec =
     loop-holds
     add-put-at
     put-at-requires
-    add-i
+    add-k
     loop-less
     loop-again
     same-length

@@ -11,10 +11,10 @@ use Rattle.raising.proofs.replace_numbers.Statement.{statement}
 use Rattle.raising.proofs.replace_numbers.Tie as tie
 
 abbrev Inv-loop : tie.InvT-loop
-Inv-loop s₀ at xs first n i₀ s i = (i ≤ n) × Replaced (from at) i (λ j. getD xs (first + j) 0) s₀ s
+Inv-loop s₀ at xs first n k₀ s k = (k ≤ n) × Replaced (from at) k (λ j. getD xs (first + j) 0) s₀ s
 
 abbrev μ-loop : tie.MeasureT-loop
-μ-loop s₀ at xs first n i₀ s i = n - i
+μ-loop s₀ at xs first n k₀ s k = n - k
 
 loop-holds : tie.Need-loop-holds Inv-loop μ-loop
 loop-holds c = (omega arith, none-replaced)
@@ -36,8 +36,8 @@ put-at-requires c κs = let l = c .before .before .before .loop in
     let able = c .before .before .before .before .before .before .pre .0 in
     (l .inv .1 .size ∙ able .size, omega (arith, able .placed))
 
-add-i : tie.Need-add-i Inv-loop μ-loop
-add-i c = search needs
+add-k : tie.Need-add-k Inv-loop μ-loop
+add-k c = search needs
 
 loop-less : tie.Need-loop-less Inv-loop μ-loop
 loop-less c = search needs
@@ -65,7 +65,7 @@ replace-numbers-spec =
     mul-put-at
     shared-slice-read-put-at
     put-at-requires
-    add-i
+    add-k
     loop-less
     loop-again
     same-length
