@@ -1,8 +1,7 @@
 -- Bounds by which sums of a record's numbers fit 64 bits. Assumes nothing.
-use Prim.Native.Nat.{ℕ, _+_, _<_, _≤_}
+use Prim.Native.Nat.{ℕ, _≤_}
 use mathlib.Core.List.{List}
 use lib.ListN.{getD}
-use Rattle.lists.specs.Pairs.{place}
 
 -- no number of a sound record, and no sum of them by row or column, is larger
 abbrev pub mostFigure : ℕ
@@ -10,7 +9,3 @@ mostFigure = 2_000_000_000_000_000
 
 pub record Moderate (xs : List ℕ) : Type 0 where
   pub at : (i : ℕ) → getD xs i 0 ≤ mostFigure
-
--- two lists of n numbers whose sums, place by place, fit 64 bits
-pub record Room (n : ℕ) (a b : List ℕ) : Type 0 where
-  pub at : (i : ℕ) → i < n → place n a i + place n b i < 18_446_744_073_709_551_616

@@ -1,13 +1,12 @@
 -- Where the bounds hold. Assumes nothing.
-use Prim.Native.Nat.{ℕ, zero, suc, _+_, _*_, _/_, _%_, _<_, _≤_}
-use mathlib.Core.Path.{_≡_}
+use Prim.Native.Nat.{ℕ, zero, suc, _*_, _/_, _%_, _<_, _≤_}
 use mathlib.Core.List.{List, [], _∷_, _++_}
 use native.Mathlib.Omega.{arith}
 use lib.ListN.{getD}
 use Rattle.lists.specs.Tables.{table, table-bound}
-use Rattle.lists.specs.Pairs.{place, pairs, joined}
-use Rattle.lists.specs.PairsLaws.{place-in, pairs-table}
-use Rattle.arrays.specs.Bounds.{mostFigure, Moderate, Room}
+use Rattle.lists.specs.Pairs.{pairs, joined}
+use Rattle.lists.specs.PairsLaws.{pairs-table}
+use Rattle.arrays.specs.Bounds.{mostFigure, Moderate}
 
 pub moderate-table : (n : ℕ) (f : ℕ → ℕ) → ((i : ℕ) → i < n → f i ≤ mostFigure) → Moderate (table n f)
 moderate-table n f h = record { at = table-bound n f mostFigure h }
@@ -32,10 +31,3 @@ pub moderate-joined : {xss : List (List ℕ)} → Moderates xss → Moderate (jo
 unfolding joined
 moderate-joined no-more = record { at = λ i. omega arith }
 moderate-joined (and-then {xs} {xss} h k) = moderate-append xs (joined xss) h (moderate-joined k)
-
--- the sum that a loop makes at place i, at any width: it fits, and it is the contract's
-pub added-fits : (n : ℕ) {a b : List ℕ} → Room n a b → (i : ℕ) → i < n → getD a i 0 + getD b i 0 < 18_446_744_073_709_551_616
-added-fits n {a} {b} h i l = omega (arith, place-in n a i l, place-in n b i l, h .at i l)
-
-pub added-is : (n : ℕ) {a b : List ℕ} → Room n a b → (i : ℕ) → i < n → getD a i 0 + getD b i 0 ≡ place n a i + place n b i
-added-is n {a} {b} h i l = omega (arith, place-in n a i l, place-in n b i l)

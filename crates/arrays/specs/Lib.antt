@@ -4,6 +4,4 @@ pub mod Put
 pub mod PutLaws
 pub mod Written
 pub mod Rows
-pub mod Added
-pub mod AddedLaws
 pub mod Stretches

@@ -1,38 +1,11 @@
-// Adds and writes out the lists of a record: lists of 8 or 16 numbers, and pair lists of 8 rows of 16.
+// Writes out the lists of a record: lists of 8 or 16 numbers, and pair lists of 8 rows of 16.
 // Called by this repository's crates only: what a function requires, its callers meet.
 ghost use mathlib.Core.Path.{_≡_};
 ghost use Prim.Native.Nat.{_+_, _*_, _<_, _≤_};
 ghost use lib.ListN.{length, getD};
 ghost use Rattle.lists.specs.Tables.{table};
 ghost use Rattle.lists.specs.Pairs.{place, cell, pairs};
-ghost use Rattle.arrays.specs.Bounds.{Room};
 ghost use Rattle.arrays.specs.Put.{Put};
-
-pub fn add8(a: [u64; 8], b: [u64; 8]) -> [u64; 8]
-    requires { ⌜ Room 8 a b ⌝ }
-    ensures { λ r. ⌜ r ≡ table 8 (λ g. place 8 a g + place 8 b g) ⌝ }
-{
-    let mut out = [0u64; 8];
-    let mut g: usize = 0;
-    while g < 8 {
-        out[g] = a[g] + b[g];
-        g += 1;
-    }
-    out
-}
-
-pub fn add16(a: [u64; 16], b: [u64; 16]) -> [u64; 16]
-    requires { ⌜ Room 16 a b ⌝ }
-    ensures { λ r. ⌜ r ≡ table 16 (λ c. place 16 a c + place 16 b c) ⌝ }
-{
-    let mut out = [0u64; 16];
-    let mut c: usize = 0;
-    while c < 16 {
-        out[c] = a[c] + b[c];
-        c += 1;
-    }
-    out
-}
 
 // Fills `out` with the first numbers of `xs`.
 fn write_list(out: &mut [u64], xs: &[u64])

@@ -6,7 +6,7 @@ use native.Mathlib.Omega.{arith}
 use lib.ListN.{length, getD}
 use Rattle.lists.specs.Tables.{table, length-table, getD-table}
 use Rattle.lists.specs.Pairs.{pairs, joined}
-use Rattle.lists.specs.PairsLaws.{length-pairs, length-joined, joined-here, joined-later, joined-none}
+use Rattle.lists.specs.PairsLaws.{cell-index, getD-pairs, length-pairs, length-joined, joined-here, joined-later, joined-none}
 use Rattle.record.specs.Book.{Book}
 use Rattle.bank.specs.Closing.{charge, drawn, lapsed, bankAfter, supplied, closingLists, closingOutput, closingLength}
 
@@ -45,6 +45,19 @@ module _ (b : Book) where
         length-table (b .plan .C) (λ c. b .con c .outstanding),
         length-table (b .plan .C) (supplied b),
       )
+
+  pub drawn-at : (g c : ℕ) → g < b .plan .G → c < b .plan .C → getD (closingOutput b) (g * b .plan .C + c) 0 ≡ drawn b g c
+  unfolding closingOutput closingLists
+  drawn-at g c h l =
+      let G = b .plan .G in
+      let C = b .plan .C in
+      joined-here (pairs G C (drawn b)) fromCharge (g * C + c) (omega (arith, length-pairs G C (drawn b), cell-index G C g c h l)) ∙ getD-pairs G C (drawn b) g c h l
+
+  pub charge-at : (g : ℕ) → g < b .plan .G → getD (closingOutput b) (b .plan .G * b .plan .C + g) 0 ≡ charge b g
+  unfolding closingOutput closingLists
+  charge-at g h =
+      joined-later (pairs (b .plan .G) (b .plan .C) (drawn b)) fromCharge (b .plan .G * b .plan .C) g (length-pairs (b .plan .G) (b .plan .C) (drawn b)) ∙
+      joined-here (table (b .plan .G) (charge b)) fromLapsed g (omega (arith, length-table (b .plan .G) (charge b))) ∙ getD-table (b .plan .G) (charge b) g 0 h
 
   -- what stands after drawn and charge
   after-charge : (i : ℕ) → getD (closingOutput b) (b .plan .G * b .plan .C + (b .plan .G + i)) 0 ≡ getD (joined fromLapsed) i 0

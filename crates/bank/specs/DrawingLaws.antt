@@ -20,7 +20,6 @@ use Rattle.bank.specs.declared.Draw.{Draw}
 use Rattle.bank.specs.declared.Drawing.{Drawing}
 use Rattle.bank.specs.Arrays.{drawOf, drawingOf}
 use Rattle.bank.specs.BankLaws.{balances, drawn-by-rule}
-use Rattle.arrays.specs.AddedLaws.{at-table}
 use Rattle.columns.specs.Columns.{ColumnPut, Columns}
 use Rattle.columns.specs.ColumnsLaws.{columns-start, columns-step, columns-pairs}
 
@@ -95,16 +94,3 @@ module _ (p : Plan) (x : Bank) (outstanding : List ℕ) where
       let f = columns-pairs (h .drawn-is) (λ g c l. nothing-drawn p has want g c (beyond c l)) in
       let s = fill-rest 0 (h .supplied-is) (λ c l b. nothing-missing p has want c (beyond c l)) in
       λ i. record { bank = record { balance = e i }; drawn = f i; supplied = s i }
-
-  -- what is left of the bank, and of what was wanted
-  pub bank-falls : {d : Drawing} → d ≡ drawingOf p x outstanding → (g : ℕ) → g < 8 → place 8 (d .bank .balance) g ≤ place 8 (x .balance) g
-  unfolding drawingOf
-  bank-falls e g l =
-      let f = stockAt p (place 8 (x .balance)) (place 16 outstanding) (p .C) in
-      rw e (omega (arith, at-table 8 f g l, stock-falls p (place 8 (x .balance)) (place 16 outstanding) g (p .C)))
-
-  pub wants-fall : {d : Drawing} → d ≡ drawingOf p x outstanding → (c : ℕ) → c < 16 → place 16 (d .supplied) c ≤ place 16 outstanding c
-  unfolding drawingOf
-  wants-fall e c l =
-      let f = missingAt p (place 8 (x .balance)) (place 16 outstanding) in
-      rw e (omega (arith, at-table 16 f c l, missing-most p (place 8 (x .balance)) (place 16 outstanding) c))

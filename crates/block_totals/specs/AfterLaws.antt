@@ -28,7 +28,7 @@ use Rattle.record.specs.Shape.{Shape}
 use Rattle.record.specs.SoundLaws.{Facts}
 use Rattle.record.specs.Words.{runLengths, total, words, cut, fromRuns, recordOf}
 use Rattle.record.specs.declared.Record.{Record}
-use Rattle.layout_rules.specs.Raised.{raised, from, raised-run, raised-either, raised-other, raised-table}
+use Rattle.layout_rules.specs.Raised.{raised, from, raised-run, raised-either, raised-other, list-raised}
 use Rattle.layout_rules.specs.LayoutLaws.{bytes-of-record}
 use Rattle.layout_rules.specs.Places.{kind-place}
 use Rattle.layout_rules.specs.Kept.{record-shape, read-kept, numbers-low}
@@ -39,13 +39,6 @@ use Rattle.block_rules.specs.RoomLaws.{output-moderate}
 use Rattle.layout_rules.specs.OnBytes.{bookIn}
 use Rattle.raising.specs.Raise.{rowSum, columnSum, Raisable}
 use Rattle.block_totals.specs.Totals.{fourRaised, generatorsRaised, consumersRaised, countsRaised, OutputLists, Settled}
-
--- list j of the record raised: what is added to it is e, which is 0 from place n on
-list-raised : (k n : ℕ) (ws : List ℕ) {xss : List (List ℕ)} (j : ℕ) (old : List ℕ) (f e : ℕ → ℕ) → n ≤ k → getD runLengths j 0 ≡ k → length old ≡ k →
-    cut runLengths ws ≡ xss → getD xss j [] ≡ old → ((i : ℕ) → i < n → f i ≡ e i) → ((i : ℕ) → n ≤ i → e i ≡ 0) →
-    cut runLengths (raised (λ i. total (take j runLengths) + i) n f ws) ≡ set xss j (table k (λ i. place k old i + e i))
-list-raised k n ws {xss} j old f e few width size at was same none =
-    raised-run runLengths ws j (λ i. i) n f (λ i l. omega arith) ∙ rw (at, was) (ap (set xss j) (raised-table k n f e old size few same none))
 
 -- the counts of blocks, behind the five first numbers
 counted : (xs : List ℕ) → length xs ≡ 7 →

@@ -2,28 +2,15 @@
 // A function with a `requires` is called by this repository's crates only, and they meet it.
 ghost use mathlib.Core.Path.{_≡_};
 ghost use lib.ListN.{length};
+ghost use Rattle.codec.specs.Bytes.{decode};
 ghost use Rattle.record.specs.Called.{numberOn};
-ghost use Rattle.record.specs.Shape.{PairLists};
-ghost use Rattle.record.specs.Stored.{recordFrom};
-ghost use Rattle.layout_rules.specs.OnBytes.{CalledOn};
-ghost use Rattle.bank.specs.Closing.{closingRule, Closed};
+ghost use Rattle.record.specs.Words.{recordOf};
+ghost use Rattle.layout_rules.specs.OnBytes.{CalledOn, bookIn};
+ghost use Rattle.bank.specs.Closing.{closingOutput, closingRule, Closed};
 ghost use Rattle.closing_rules.specs.Output.{OutputRoom, sixLists};
-ghost use Rattle.closing_rules.specs.Accepted.{MonthClosed};
 use bank::Bank;
-use record::Agreed;
 use record::Answer;
-use record::Consumers;
-use record::Counts;
-use record::Generators;
 use record::Record;
-use record::Terms;
-
-// What a closing changes of a record.
-pub struct Totals {
-    pub counts: Counts,
-    pub generators: Generators,
-    pub consumers: Consumers,
-}
 
 // The closing's output: each list into its own stretch of the slice.
 fn write_lists(
@@ -53,36 +40,28 @@ fn write_lists(
     arrays::put16(out, last, &supplied, m);
 }
 
-// Steps 1 to 4, and the output, on a record that is given by its parts. What was drawn by generator and by consumer is
-// what the bank and the open energy have lost by it.
-fn close_parts<'a>(
-    terms: Terms,
-    counts: Counts,
-    agreed: Agreed,
-    link: &'a [u64; 128],
-    loss: &'a [u64; 128],
-    kw: &'a [u64; 128],
-    rank: &'a [u64; 128],
-    generators: Generators,
-    consumers: Consumers,
-    out: &mut [u64],
-) -> Totals
-    requires { ⌜ PairLists (now link) (now loss) (now kw) (now rank) × (numberOn (closingRule (length (now out))) (recordFrom terms counts agreed (now link) (now loss) (now kw) (now rank) generators consumers) ≡ 0) ⌝ }
-    ensures { λ t. ⌜ MonthClosed (recordFrom terms counts agreed (now (link .entry)) (now (loss .entry)) (now (kw .entry)) (now (rank .entry)) generators consumers) (recordFrom terms (t .counts) agreed (now (link .entry)) (now (loss .entry)) (now (kw .entry)) (now (rank .entry)) (t .generators) (t .consumers)) (now (out .exit)) ⌝ }
+// Steps 1 to 4 on what the record holds for them, and their lists into the slice.
+fn close_lists(s: &[u8], out: &mut [u64])
+    requires { ⌜ (length (now s) ≡ 5752) × (numberOn (closingRule (length (now out))) (recordOf (decode 8 719 (now s))) ≡ 0) ⌝ }
+    ensures { λ _. ⌜ now (out .exit) ≡ closingOutput (bookIn (now (s .entry))) ⌝ }
 {
-    let held = generators.bank;
-    let pending = generators.pending;
-    let outstanding = consumers.outstanding;
-    let n = terms.generators as usize;
-    let m = terms.consumers as usize;
+    let n = in_place::number_at(s, layout_rules::GENERATOR_COUNT) as usize;
+    let m = in_place::number_at(s, layout_rules::CONSUMER_COUNT) as usize;
+    let rate = in_place::number_at(s, layout_rules::RATE);
+    let cycle = in_place::number_at(s, layout_rules::CYCLE);
+    let gone = in_place::number_at(s, layout_rules::GONE);
+    let link = loading::load_pairs(s, layout_rules::LINK);
+    let rank = loading::load_pairs(s, layout_rules::RANK);
+    let held = loading::load8(s, layout_rules::BANK);
+    let pending = loading::load8(s, layout_rules::PENDING);
+    let outstanding = loading::load16(s, layout_rules::OUTSTANDING);
     let before = Bank { balance: held };
-    let credit = before.credit(pending, terms.rate);
+    let credit = before.credit(pending, rate);
     let charge = credit.charge;
-    let credited = credit.bank;
-    let drawing = bank::draw_all(credited, n, m, rank, link, outstanding);
+    let drawing = bank::draw_all(credit.bank, n, m, &rank, &link, outstanding);
     let supplied = drawing.supplied;
     let drawn_on = drawing.bank;
-    let lapse = drawn_on.lapse(closing_totals::cycle_ends(terms, counts));
+    let lapse = drawn_on.lapse(closing_totals::cycle_ends(gone, cycle));
     let lapsed = lapse.lapsed;
     let after = lapse.bank;
     let balance = after.balance;
@@ -97,54 +76,18 @@ fn close_parts<'a>(
         n,
         m,
     );
-    let full = credited.balance;
-    let rest = drawn_on.balance;
-    let given = closing_totals::less8(full, rest);
-    let taken = closing_totals::less16(outstanding, supplied);
-    Totals {
-        counts: Counts {
-            gone: closing_totals::months_gone(terms, counts),
-            blocks: counts.blocks,
-            month: 0,
-        },
-        generators: closing_totals::generators_after(generators, charge, given, lapsed, balance),
-        consumers: closing_totals::consumers_after(consumers, taken, supplied),
-    }
 }
 
-// Closes a month of the record that the bytes hold; called by this repository's crates only, which meet what it requires. The record's parts
-// are read, and those stored that a closing changes.
+// Closes a month of the record that the bytes hold; called by this repository's crates only, which meet what it requires. The lists are made
+// in the slice of the output, and the totals are entered in the bytes from there.
 pub fn close_on(s: &mut [u8], out: &mut [u64]) -> u32
     requires { ⌜ length (now s) ≡ 5752 ⌝ }
     ensures { λ r. ⌜ CalledOn (closingRule (length (now (out .entry)))) (now (s .entry)) (now (out .entry)) r (now (s .exit)) (now (out .exit)) ⌝ }
 {
     let number = closing_refusal::refusal_on(s, out.len());
     if number == 0 {
-        let terms = loading::load_terms(s);
-        let counts = loading::load_counts(s);
-        let agreed = loading::load_agreed(s);
-        let link = loading::load_pairs(s, layout_rules::LINK);
-        let loss = loading::load_pairs(s, layout_rules::LOSS);
-        let kw = loading::load_pairs(s, layout_rules::KW);
-        let rank = loading::load_pairs(s, layout_rules::RANK);
-        let generators = loading::load_generators(s);
-        let consumers = loading::load_consumers(s);
-        let t = close_parts(
-            terms,
-            counts,
-            agreed,
-            &link,
-            &loss,
-            &kw,
-            &rank,
-            generators,
-            consumers,
-            out,
-        );
-        let next = t.counts;
-        let given = t.generators;
-        let taken = t.consumers;
-        storing::store_totals(next, given, taken, s);
+        close_lists(s, out);
+        closing_totals::enter(s, out);
         return 0;
     }
     number

@@ -1,16 +1,16 @@
 -- The output of a closing, written from arrays of the record's width. Assumes nothing.
-use Prim.Native.Nat.{ℕ, _+_, _*_, _≤_}
-use mathlib.Core.Path.{_≡_}
+use Prim.Native.Nat.{ℕ, _+_, _*_, _≤_, _<_}
+use mathlib.Core.Path.{_≡_, _∙_}
 use mathlib.Core.List.{List, [], _∷_}
 use native.Mathlib.Omega.{arith}
 use lib.ListN.{length, getD}
 use Rattle.lists.specs.Tables.{table}
 use Rattle.lists.specs.Pairs.{cell, pairs, joined}
+use Rattle.lists.specs.PairsLaws.{cell-in, getD-pairs}
 use Rattle.arrays.specs.Written.{pairs-same, list-places, list-table}
 use Rattle.record.specs.Stored.{consumerAt, planOf, figures}
 use Rattle.record.specs.declared.Record.{Record}
 use Rattle.bank.specs.Closing.{charge, drawn, supplied, lapsed, bankAfter, closingLists, closingOutput}
-use Rattle.arrays.specs.AddedLaws.{at-pairs}
 use Rattle.closing_rules.specs.Month.{Month, monthOf}
 
 -- the slice has the stated length
@@ -42,10 +42,13 @@ output-is r g8 c16 =
     let G = r .terms .generators in
     let C = r .terms .consumers in
     λ i. joined
-    (pairs-same G C (cell 8 16 (pairs 8 16 (drawn b))) (drawn b) (λ g c l k. at-pairs (drawn b) g c (omega arith) (omega arith)) i ∷
+    (pairs-same G C (cell 8 16 (pairs 8 16 (drawn b))) (drawn b) (λ g c l k. drawn-is g c (omega arith) (omega arith)) i ∷
     list-table G 8 (charge b) g8 i ∷
     list-table G 8 (lapsed b) g8 i ∷
     list-table G 8 (bankAfter b) g8 i ∷
     list-places C 16 (r .consumers .outstanding) c16 i ∷
     list-table C 16 (supplied b) c16 i ∷
     [])
+  where
+    drawn-is : (g c : ℕ) → g < 8 → c < 16 → cell 8 16 (pairs 8 16 (drawn (figures r))) g c ≡ drawn (figures r) g c
+    drawn-is g c l k = cell-in 8 16 (pairs 8 16 (drawn (figures r))) g c l k ∙ getD-pairs 8 16 (drawn (figures r)) g c l k

@@ -1,99 +1,79 @@
-// A closing's totals and its place in the cycle. Called by this repository's crates only: what a function requires, its
-// callers meet.
+// A closing's totals and its place in the cycle: the record after it is made where it stands in the bytes, from the closing's lists.
+// Called by this repository's crates only: what a function requires, its callers meet.
 ghost use mathlib.Core.Path.{_≡_};
 ghost use Prim.Native.Nat.{_+_, _≤_};
 ghost use lib.Dec.{eqb};
-ghost use Rattle.closing_rules.specs.Month.{less, AtMost};
-ghost use Rattle.closing_rules.specs.Totals.{generatorsAfter, consumersAfter, monthsGone, GeneratorsRoom, ConsumersRoom};
-use record::Consumers;
-use record::Counts;
-use record::Generators;
-use record::Terms;
+ghost use lib.ListN.{length, getD};
+ghost use Rattle.arrays.specs.Bounds.{mostFigure};
+ghost use Rattle.codec.specs.Bytes.{encode, decode};
+ghost use Rattle.record.specs.Stored.{stored};
+ghost use Rattle.record.specs.Words.{words};
+ghost use Rattle.layout_rules.specs.OnBytes.{bookIn};
+ghost use Rattle.raising.specs.Raise.{Raisable};
+ghost use Rattle.bank.specs.Closing.{afterClosing};
+ghost use Rattle.closing_totals.specs.Totals.{monthsGone, countsAfter, totalsRaised, stocksReplaced, OutputLists, Listed};
 
 // Whether the month that closes is the last of its cycle.
-pub fn cycle_ends(terms: Terms, counts: Counts) -> bool
-    requires { ⌜ counts .gone ≤ 12 ⌝ }
-    ensures { λ r. ⌜ r ≡ eqb (counts .gone + 1) (terms .cycle) ⌝ }
+pub fn cycle_ends(gone: u64, cycle: u64) -> bool
+    requires { ⌜ gone ≤ 12 ⌝ }
+    ensures { λ r. ⌜ r ≡ eqb (gone + 1) cycle ⌝ }
 {
-    counts.gone + 1 == terms.cycle
+    gone + 1 == cycle
 }
 
 // Months gone after the closing; a new cycle starts at 0.
-pub fn months_gone(terms: Terms, counts: Counts) -> u64
-    requires { ⌜ counts .gone ≤ 12 ⌝ }
-    ensures { λ r. ⌜ r ≡ monthsGone terms counts ⌝ }
+fn months_gone(gone: u64, cycle: u64) -> u64
+    requires { ⌜ gone ≤ 12 ⌝ }
+    ensures { λ r. ⌜ r ≡ monthsGone gone cycle ⌝ }
 {
-    if cycle_ends(terms, counts) {
+    if cycle_ends(gone, cycle) {
         0
     } else {
-        counts.gone + 1
+        gone + 1
     }
 }
 
-pub fn less8(a: [u64; 8], b: [u64; 8]) -> [u64; 8]
-    requires { ⌜ AtMost 8 b a ⌝ }
-    ensures { λ r. ⌜ r ≡ less 8 a b ⌝ }
+// The next month, which has no block yet.
+fn start_month(s: &mut [u8])
+    requires { ⌜ (length (now s) ≡ 5752) × (getD (decode 8 719 (now s)) 4 0 ≤ 12) ⌝ }
+    ensures { λ _. ⌜ decode 8 719 (now (s .exit)) ≡ countsAfter (decode 8 719 (now (s .entry))) ⌝ }
 {
-    let mut out = [0u64; 8];
-    let mut g: usize = 0;
-    while g < 8 {
-        out[g] = a[g] - b[g];
-        g += 1;
-    }
-    out
+    let before = in_place::number_at(s, layout_rules::GONE);
+    let gone = months_gone(before, in_place::number_at(s, layout_rules::CYCLE));
+    in_place::put_at(s, layout_rules::GONE, gone);
+    in_place::put_at(s, layout_rules::MONTH, 0);
 }
 
-pub fn less16(a: [u64; 16], b: [u64; 16]) -> [u64; 16]
-    requires { ⌜ AtMost 16 b a ⌝ }
-    ensures { λ r. ⌜ r ≡ less 16 a b ⌝ }
+fn raise_totals(s: &mut [u8], out: &[u64], n: usize, m: usize)
+    requires { ⌜ Raisable 583 136 mostFigure (now s) × OutputLists n m (now out) ⌝ }
+    ensures { λ _. ⌜ decode 8 719 (now (s .exit)) ≡ totalsRaised n m (now (out .entry)) (decode 8 719 (now (s .entry))) ⌝ }
 {
-    let mut out = [0u64; 16];
-    let mut c: usize = 0;
-    while c < 16 {
-        out[c] = a[c] - b[c];
-        c += 1;
-    }
-    out
+    let size = n * m;
+    raising::raise_numbers(s, layout_rules::CHARGE, out, size, n);
+    raising::raise_rows(s, layout_rules::GENERATOR_DRAWN, out, 0, n, m);
+    raising::raise_numbers(s, layout_rules::LAPSED, out, size + n, n);
+    raising::raise_columns(s, layout_rules::CONSUMER_DRAWN, out, 0, n, m);
+    raising::raise_numbers(s, layout_rules::SUPPLIED, out, size + 3 * n + m, m);
 }
 
-pub fn generators_after(
-    t: Generators,
-    charge: [u64; 8],
-    given: [u64; 8],
-    lapsed: [u64; 8],
-    balance: [u64; 8],
-) -> Generators
-    requires { ⌜ GeneratorsRoom t charge given lapsed ⌝ }
-    ensures { λ r. ⌜ r ≡ generatorsAfter t charge given lapsed balance ⌝ }
+// The bank that is left, and nothing pending or open.
+fn replace_stocks(s: &mut [u8], out: &[u64], n: usize, m: usize)
+    requires { ⌜ (length (now s) ≡ 5752) × OutputLists n m (now out) ⌝ }
+    ensures { λ _. ⌜ decode 8 719 (now (s .exit)) ≡ stocksReplaced n m (now (out .entry)) (decode 8 719 (now (s .entry))) ⌝ }
 {
-    let charged = t.charge;
-    let drawn = t.drawn;
-    let gone = t.lapsed;
-    let charge_total = arrays::add8(charged, charge);
-    let drawn_total = arrays::add8(drawn, given);
-    let lapsed_total = arrays::add8(gone, lapsed);
-    let none = [0u64; 8];
-    let mut after = t;
-    after.charge = charge_total;
-    after.drawn = drawn_total;
-    after.lapsed = lapsed_total;
-    after.bank = balance;
-    after.pending = none;
-    after
+    raising::replace_numbers(s, layout_rules::BANK, out, n * m + 2 * n, n);
+    raising::clear_numbers(s, layout_rules::PENDING, n);
+    raising::clear_numbers(s, layout_rules::OUTSTANDING, m);
 }
 
-pub fn consumers_after(t: Consumers, taken: [u64; 16], supplied: [u64; 16]) -> Consumers
-    requires { ⌜ ConsumersRoom t taken supplied ⌝ }
-    ensures { λ r. ⌜ r ≡ consumersAfter t taken supplied ⌝ }
+// The record after a closing whose lists stand in `out`.
+pub fn enter(s: &mut [u8], out: &[u64])
+    requires { ⌜ Listed (now s) (now out) ⌝ }
+    ensures { λ _. ⌜ now (s .exit) ≡ encode 8 (words (stored (afterClosing (bookIn (now (s .entry)))))) ⌝ }
 {
-    let drawn = t.drawn;
-    let bought = t.supplied;
-    let drawn_total = arrays::add16(drawn, taken);
-    let supplied_total = arrays::add16(bought, supplied);
-    let none = [0u64; 16];
-    let mut after = t;
-    after.drawn = drawn_total;
-    after.supplied = supplied_total;
-    after.outstanding = none;
-    after
+    let n = in_place::number_at(s, layout_rules::GENERATOR_COUNT) as usize;
+    let m = in_place::number_at(s, layout_rules::CONSUMER_COUNT) as usize;
+    start_month(s);
+    raise_totals(s, out, n, m);
+    replace_stocks(s, out, n, m);
 }

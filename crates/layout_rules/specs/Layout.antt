@@ -148,11 +148,6 @@ pub words-parts : (r : Record) → words r ≡
 unfolding words runs joined
 words-parts r = simp append-assoc
 
--- a record with other counts and totals
-abbrev pub withTotals : Record → Counts → Generators → Consumers → Record
-withTotals r counts generators consumers =
-    record { terms = r .terms; counts = counts; agreed = r .agreed; links = r .links; schedule = r .schedule; generators = generators; consumers = consumers }
-
 -- ---- a part stored
 
 -- The record's bytes s became t: the numbers ws stand in it from place `from` up to place `to`, behind what stood before them.

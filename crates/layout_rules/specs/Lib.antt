@@ -1,9 +1,8 @@
 pub mod Layout
 pub mod LayoutLaws
-pub mod TotalsLaws
 pub mod Places
 pub mod OnBytes
 pub mod OnBytesLaws
 pub mod Kept
 pub mod Raised
-pub mod PartsLaws
+pub mod Replaced

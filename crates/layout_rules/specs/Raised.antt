@@ -15,7 +15,7 @@ use Rattle.lists.specs.Choice.{if_then_else_}
 use Rattle.lists.specs.Tables.{table, is-table}
 use Rattle.lists.specs.Pairs.{place}
 use Rattle.lists.specs.PairsLaws.{place-in}
-use Rattle.record.specs.Words.{total, cut}
+use Rattle.record.specs.Words.{runLengths, total, cut}
 
 -- f i added to the number at place `at i`, for each i below n in turn
 unfoldable pub raised : (ℕ → ℕ) → ℕ → (ℕ → ℕ) → List ℕ → List ℕ
@@ -157,7 +157,7 @@ raised-either t a b f ws (suc n) h = rw (raised-either t a b f ws n (omega arith
 -- ---- the runs of a list that is cut
 
 -- a number set within run j
-set-run : (ns ws : List ℕ) (j i v : ℕ) → i < getD ns j 0 → cut ns (set ws (total (take j ns) + i) v) ≡ set (cut ns ws) j (set (getD (cut ns ws) j []) i v)
+pub set-run : (ns ws : List ℕ) (j i v : ℕ) → i < getD ns j 0 → cut ns (set ws (total (take j ns) + i) v) ≡ set (cut ns ws) j (set (getD (cut ns ws) j []) i v)
 unfolding cut total
 set-run [] ws j i v h = absurd (omega arith)
 set-run (n ∷ ns) ws zero i v h = rw (zero-add, take-set-lt n ws i v h, drop-set-lt n ws i v h)
@@ -171,7 +171,7 @@ run-place (n ∷ ns) ws zero i h = rw zero-add (sym (getD-take n ws i 0 h))
 run-place (n ∷ ns) ws (suc j) i h = rw add-assoc (sym (getD-drop n ws (total (take j ns) + i) 0) ∙ run-place ns (drop n ws) j i h)
 
 -- run j is one of the runs
-run-among : (ns ws : List ℕ) (j i : ℕ) → i < getD ns j 0 → j < length (cut ns ws)
+pub run-among : (ns ws : List ℕ) (j i : ℕ) → i < getD ns j 0 → j < length (cut ns ws)
 unfolding cut
 run-among [] ws j i h = absurd (omega arith)
 run-among (n ∷ ns) ws zero i h = omega arith
@@ -195,3 +195,10 @@ raised-run ns ws j p (suc n) f h =
     let here : getD (cut ns xs) j [] ≡ ys = ap (λ (xss : List (List ℕ)). getD xss j []) before ∙ getD-set-same old j ys [] (run-among ns ws j (p n) l) in
     let number : getD xs (at n) 0 ≡ getD ys (p n) 0 = run-place ns xs j (p n) l ∙ ap (λ (zs : List ℕ). getD zs (p n) 0) here in
     set-run ns xs j (p n) (getD xs (at n) 0 + f n) l ∙ rw (number, here, before) (set-set old j ys (set ys (p n) (getD ys (p n) 0 + f n)))
+
+-- list j of the record raised: what is added to it is e, which is 0 from place n on
+pub list-raised : (k n : ℕ) (ws : List ℕ) {xss : List (List ℕ)} (j : ℕ) (old : List ℕ) (f e : ℕ → ℕ) → n ≤ k → getD runLengths j 0 ≡ k → length old ≡ k →
+    cut runLengths ws ≡ xss → getD xss j [] ≡ old → ((i : ℕ) → i < n → f i ≡ e i) → ((i : ℕ) → n ≤ i → e i ≡ 0) →
+    cut runLengths (raised (λ i. total (take j runLengths) + i) n f ws) ≡ set xss j (table k (λ i. place k old i + e i))
+list-raised k n ws {xss} j old f e few width size at was same none =
+    raised-run runLengths ws j (λ i. i) n f (λ i l. omega arith) ∙ rw (at, was) (ap (set xss j) (raised-table k n f e old size few same none))

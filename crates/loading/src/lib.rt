@@ -16,7 +16,7 @@ fn load_run(s: &[u8], at: usize, out: &mut [u64])
     codec::read8(&s[start..end], out);
 }
 
-fn load8(s: &[u8], at: usize) -> [u64; 8]
+pub fn load8(s: &[u8], at: usize) -> [u64; 8]
     requires { ⌜ (length (now s) ≡ 5752) × (at + 8 ≤ 719) ⌝ }
     ensures { λ r. ⌜ r ≡ run (decode 8 719 (now (s .entry))) 8 at ⌝ }
 {
@@ -25,7 +25,7 @@ fn load8(s: &[u8], at: usize) -> [u64; 8]
     out
 }
 
-fn load16(s: &[u8], at: usize) -> [u64; 16]
+pub fn load16(s: &[u8], at: usize) -> [u64; 16]
     requires { ⌜ (length (now s) ≡ 5752) × (at + 16 ≤ 719) ⌝ }
     ensures { λ r. ⌜ r ≡ run (decode 8 719 (now (s .entry))) 16 at ⌝ }
 {
@@ -71,7 +71,7 @@ pub fn load_counts(s: &[u8]) -> record::Counts
     }
 }
 
-pub fn load_agreed(s: &[u8]) -> record::Agreed
+fn load_agreed(s: &[u8]) -> record::Agreed
     requires { ⌜ length (now s) ≡ 5752 ⌝ }
     ensures { λ r. ⌜ r ≡ recordOf (decode 8 719 (now (s .entry))) .agreed ⌝ }
 {
@@ -105,7 +105,7 @@ fn load_schedule(s: &[u8]) -> record::Schedule
     record::Schedule { kw, rank }
 }
 
-pub fn load_generators(s: &[u8]) -> record::Generators
+fn load_generators(s: &[u8]) -> record::Generators
     requires { ⌜ length (now s) ≡ 5752 ⌝ }
     ensures { λ r. ⌜ r ≡ recordOf (decode 8 719 (now (s .entry))) .generators ⌝ }
 {
@@ -133,7 +133,7 @@ pub fn load_generators(s: &[u8]) -> record::Generators
     }
 }
 
-pub fn load_consumers(s: &[u8]) -> record::Consumers
+fn load_consumers(s: &[u8]) -> record::Consumers
     requires { ⌜ length (now s) ≡ 5752 ⌝ }
     ensures { λ r. ⌜ r ≡ recordOf (decode 8 719 (now (s .entry))) .consumers ⌝ }
 {

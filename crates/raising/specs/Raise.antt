@@ -1,4 +1,4 @@
--- Numbers of the record raised where they stand in its bytes, by lists and by the sums of their rows and columns. Assumes nothing.
+-- Numbers of the record raised, by lists and by the sums of their rows and columns, or replaced where they stand in its bytes. Assumes nothing.
 use Prim.Native.Nat.{ℕ, _+_, _*_, _≤_}
 use mathlib.Core.Path.{_≡_}
 use mathlib.Core.List.{List}
@@ -7,6 +7,7 @@ use Rattle.lists.specs.Sums.{sum}
 use Rattle.arrays.specs.Bounds.{mostFigure}
 use Rattle.codec.specs.Bytes.{decode}
 use Rattle.layout_rules.specs.Raised.{raised}
+use Rattle.layout_rules.specs.Replaced.{replaced}
 
 -- ---- sums of a list of rows of m numbers that stands in xs from place `first` on
 
@@ -36,3 +37,15 @@ pub record Raisable (p n b : ℕ) (s : List ℕ) : Type 0 where
 -- a number that is no more than this has room for a sum of 16 figures
 abbrev pub mostRaised : ℕ
 mostRaised = 16 * mostFigure
+
+-- ---- numbers replaced in the record's bytes
+
+-- the bytes s became t: the number at place `at i` is now f i, for each i below n
+pub record Replaced (at : ℕ → ℕ) (n : ℕ) (f : ℕ → ℕ) (s t : List ℕ) : Type 0 where
+  pub size : length t ≡ length s
+  pub is : decode 8 719 t ≡ replaced at n f (decode 8 719 s)
+
+-- n numbers of the record from place p on
+pub record Replaceable (p n : ℕ) (s : List ℕ) : Type 0 where
+  pub size : length s ≡ 5752
+  pub placed : p + n ≤ 719

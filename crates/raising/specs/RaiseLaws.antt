@@ -1,4 +1,4 @@
--- The laws by which the loops that raise numbers of a record are proved. Assumes nothing.
+-- The laws by which the loops that raise or replace numbers of a record are proved. Assumes nothing.
 use Prim.Native.Nat.{ℕ, _+_, _*_, _≤_, _<_}
 use mathlib.Core.Path.{_≡_, refl, sym, ap, _∙_}
 use mathlib.Core.List.{List}
@@ -10,7 +10,8 @@ use Rattle.arrays.specs.Bounds.{mostFigure, Moderate}
 use Rattle.codec.specs.Bytes.{decode}
 use Rattle.codec.specs.BytesLaws.{length-decode}
 use Rattle.layout_rules.specs.Raised.{raised, from, raised-none, raised-more, raised-other, raised-same, raised-nothing, raised-twice, raised-cap}
-use Rattle.raising.specs.Raise.{rowSum, columnSum, Raised, mostRaised, Raisable}
+use Rattle.layout_rules.specs.Replaced.{replaced-none, replaced-more}
+use Rattle.raising.specs.Raise.{rowSum, columnSum, Raised, mostRaised, Raisable, Replaced}
 
 module _ {at f : ℕ → ℕ} {s : List ℕ} where
   pub none-raised : Raised at 0 f s s
@@ -83,4 +84,14 @@ module _ (at m first : ℕ) (xs s : List ℕ) where
             };
       }
 
--- ---- the place by the kind
+-- ---- numbers replaced
+
+module _ {at f : ℕ → ℕ} {s : List ℕ} where
+  pub none-replaced : Replaced at 0 f s s
+  none-replaced = record { size = refl; is = sym (replaced-none at f (decode 8 719 s)) }
+
+  pub one-replaced : {i v : ℕ} {t u : List ℕ} → Replaced at i f s t → v ≡ f i → length u ≡ length t → decode 8 719 u ≡ set (decode 8 719 t) (at i) v → Replaced at (i + 1) f s u
+  one-replaced {i} r w e d = record { size = e ∙ r .size; is = d ∙ rw (r .is, w) (sym (replaced-more at f (decode 8 719 s) i)) }
+
+  pub all-replaced : {n i : ℕ} {t : List ℕ} → Replaced at i f s t → i ≡ n → Replaced at n f s t
+  all-replaced r e = rw (← e) r

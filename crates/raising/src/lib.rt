@@ -1,11 +1,11 @@
-// Numbers of a record's bytes raised where they stand: by the numbers of a list, and by the sums of its rows and columns.
+// Numbers of a record's bytes changed where they stand: raised by the numbers of a list, or by the sums of its rows and columns, or replaced.
 // Called by this repository's crates only: what a function requires, its callers meet.
 ghost use mathlib.Core.Path.{_≡_};
 ghost use Prim.Native.Nat.{_+_, _*_, _≤_};
 ghost use lib.ListN.{length, getD};
 ghost use Rattle.arrays.specs.Bounds.{mostFigure, Moderate};
 ghost use Rattle.layout_rules.specs.Raised.{from};
-ghost use Rattle.raising.specs.Raise.{rowSum, columnSum, Raised, mostRaised, Raisable};
+ghost use Rattle.raising.specs.Raise.{rowSum, columnSum, Raised, mostRaised, Raisable, Replaced, Replaceable};
 
 // The sum of row g of the rows of m numbers that start at `first`.
 pub fn row_sum(xs: &[u64], first: usize, m: usize, g: usize) -> u64
@@ -64,5 +64,28 @@ pub fn raise_columns(s: &mut [u8], at: usize, xs: &[u64], first: usize, n: usize
     while g < n {
         raise_numbers(s, at, xs, first + g * m, m);
         g += 1;
+    }
+}
+
+// These replace n numbers of the record from place `at` on: by the numbers of `xs` that start at `first`, and by 0.
+pub fn replace_numbers(s: &mut [u8], at: usize, xs: &[u64], first: usize, n: usize)
+    requires { ⌜ Replaceable at n (now s) × (first + n ≤ length (now xs)) ⌝ }
+    ensures { λ _. ⌜ Replaced (from at) n (λ i. getD (now (xs .entry)) (first + i) 0) (now (s .entry)) (now (s .exit)) ⌝ }
+{
+    let mut k: usize = 0;
+    while k < n {
+        in_place::put_at(s, at + k, xs[first + k]);
+        k += 1;
+    }
+}
+
+pub fn clear_numbers(s: &mut [u8], at: usize, n: usize)
+    requires { ⌜ Replaceable at n (now s) ⌝ }
+    ensures { λ _. ⌜ Replaced (from at) n (λ i. 0) (now (s .entry)) (now (s .exit)) ⌝ }
+{
+    let mut k: usize = 0;
+    while k < n {
+        in_place::put_at(s, at + k, 0);
+        k += 1;
     }
 }

@@ -28,11 +28,6 @@ pub record ScheduleShape (x : Schedule) : Type 0 where
   pub kw : length (x .kw) ≡ 128
   pub rank : length (x .rank) ≡ 128
 
--- pair lists that are lent
-pub record PairLists (link loss kw rank : List ℕ) : Type 0 where
-  pub links : LinksShape (record { link = link; loss = loss })
-  pub schedule : ScheduleShape (record { kw = kw; rank = rank })
-
 pub record GeneratorsShape (x : Generators) : Type 0 where
   pub injected : length (x .injected) ≡ 8
   pub unaccounted : length (x .unaccounted) ≡ 8

@@ -1,14 +1,10 @@
 -- The record as stored, and its figures. Assumes nothing.
 use Prim.Native.Nat.{ℕ}
-use mathlib.Core.List.{List}
 use Rattle.lists.specs.Tables.{table}
 use Rattle.lists.specs.Pairs.{place, cell, pairs}
 use Rattle.delivery.specs.Plan.{Plan}
 use Rattle.record.specs.Book.{Book, noInjection, noConsumption}
 use Rattle.record.specs.declared.Record.{Record}
-use Rattle.record.specs.declared.Terms.{Terms}
-use Rattle.record.specs.declared.Counts.{Counts}
-use Rattle.record.specs.declared.Agreed.{Agreed}
 use Rattle.record.specs.declared.Generators.{Generators}
 use Rattle.record.specs.declared.Consumers.{Consumers}
 use Rattle.record.specs.declared.GeneratorTerms.{GeneratorTerms}
@@ -39,19 +35,6 @@ consumerAt t c =
       drawn = place 16 (t .drawn) c;
       supplied = place 16 (t .supplied) c;
       outstanding = place 16 (t .outstanding) c;
-    }
-
--- a record by its parts, the pair lists by themselves
-abbrev pub recordFrom : Terms → Counts → Agreed → (link loss kw rank : List ℕ) → Generators → Consumers → Record
-recordFrom terms counts agreed link loss kw rank generators consumers =
-    record {
-      terms = terms;
-      counts = counts;
-      agreed = agreed;
-      links = record { link = link; loss = loss };
-      schedule = record { kw = kw; rank = rank };
-      generators = generators;
-      consumers = consumers;
     }
 
 -- the figures of a stored record

@@ -4,7 +4,7 @@ ghost use Prim.Native.Nat.{_+_, _≤_};
 ghost use lib.ListN.{length};
 ghost use Rattle.codec.specs.Bytes.{encode, decode};
 ghost use Rattle.record.specs.Words.{words, recordOf};
-ghost use Rattle.layout_rules.specs.Layout.{Laid, termsRun, countsRun, agreedRun, linksRun, scheduleRun, generatorsRun, consumersRun, withTotals};
+ghost use Rattle.layout_rules.specs.Layout.{Laid, termsRun, countsRun, agreedRun, linksRun, scheduleRun, generatorsRun, consumersRun};
 
 fn store8(run: [u64; 8], s: &mut [u8], at: usize)
     requires { ⌜ (length (now s) ≡ 5752) × (at + 8 ≤ 719) ⌝ }
@@ -128,18 +128,3 @@ pub fn store(r: record::Record, s: &mut [u8])
     store_consumers(r.consumers, s);
 }
 
-// Stores what a block or a closing changes of a record; the other bytes stay.
-pub fn store_totals(
-    counts: record::Counts,
-    generators: record::Generators,
-    consumers: record::Consumers,
-    s: &mut [u8],
-)
-    requires { ⌜ length (now s) ≡ 5752 ⌝ }
-    ensures { λ _. ⌜ now (s .exit) ≡ encode 8 (words (withTotals (recordOf (decode 8 719 (now (s .entry)))) counts generators consumers)) ⌝ }
-{
-    let run = [counts.gone, counts.blocks, counts.month];
-    codec::write8(&run, &mut s[32..56]);
-    store_generators(generators, s);
-    store_consumers(consumers, s);
-}

@@ -1,6 +1,6 @@
 -- `closing_totals::months_gone` meets its contract: they start again at the end of a cycle.
 use mathlib.Core.Path.{_∙_, sym}
-use Rattle.closing_rules.specs.Totals.{monthsGone}
+use Rattle.closing_totals.specs.Totals.{monthsGone}
 use borrow.Author.Needs.{needs}
 use Rattle.closing_totals.proofs.months_gone.Statement.{statement}
 use Rattle.closing_totals.proofs.months_gone.Tie as tie
@@ -17,7 +17,7 @@ returns c = rw (sym (c .before .cycle-ends .ensures) ∙ c .if1 .taken)
 
 returns-2 : tie.Need-returns-2
 unfolding monthsGone
-returns-2 c = rw (sym (c .before .before .cycle-ends .ensures) ∙ c .before .if1 .left)
+returns-2 c = rw (sym (c .before .cycle-ends .ensures) ∙ c .if1 .left)
 
 pub months-gone-spec : {M : Type 1} → statement M
 months-gone-spec = tie.close (tie.spec cycle-ends-requires add-result returns returns-2)

@@ -1,0 +1,87 @@
+-- `closing::close_lists` meets its contract: the steps on what was read give the output of the rules.
+use mathlib.Core.Path.{refl}
+use native.Mathlib.Omega.{arith}
+use borrow.Author.Needs.{needs}
+use Rattle.codec.specs.Bytes.{decode}
+use Rattle.record.specs.Words.{recordOf}
+use Rattle.closing_rules.specs.Accepted.{StepsRead, credit-ready, draw-ready, output-room, lists-are}
+use Rattle.closing.specs.Ready.{steps-read, gone-low, ends-so}
+use Rattle.closing.proofs.close_lists.Statement.{statement}
+use Rattle.closing.proofs.close_lists.Tie as tie
+
+number-at-requires : tie.Need-number-at-requires
+number-at-requires c κs = (c .before .before .pre .0, omega arith)
+
+number-at-requires-2 : tie.Need-number-at-requires-2
+number-at-requires-2 c κs = (c .before .before .before .pre .0, omega arith)
+
+number-at-requires-3 : tie.Need-number-at-requires-3
+number-at-requires-3 c κs = (c .before .before .before .before .pre .0, omega arith)
+
+number-at-requires-4 : tie.Need-number-at-requires-4
+number-at-requires-4 c κs = (c .before .before .before .before .before .pre .0, omega arith)
+
+number-at-requires-5 : tie.Need-number-at-requires-5
+number-at-requires-5 c κs = (c .before .before .before .before .before .before .pre .0, omega arith)
+
+load-pairs-requires : tie.Need-load-pairs-requires
+load-pairs-requires c κs = (c .before .before .before .before .before .before .before .pre .0, omega arith)
+
+load-pairs-requires-2 : tie.Need-load-pairs-requires-2
+load-pairs-requires-2 c κs = (c .before .before .before .before .before .before .before .before .pre .0, omega arith)
+
+load8-requires : tie.Need-load8-requires
+load8-requires c κs = (c .before .before .before .before .before .before .before .before .before .pre .0, omega arith)
+
+load8-requires-2 : tie.Need-load8-requires-2
+load8-requires-2 c κs = (c .before .before .before .before .before .before .before .before .before .before .pre .0, omega arith)
+
+load16-requires : tie.Need-load16-requires
+load16-requires c κs = (c .before .before .before .before .before .before .before .before .before .before .before .pre .0, omega arith)
+
+-- what was read of the record
+read : (c : tie.After-load16) → StepsRead (recordOf (decode 8 719 (c .before .before .before .before .before .before .before .before .before .before .before .before .args .s .now))) (c .before .before .before .before .before .before .before .before .before .number-at .result) (c .before .before .before .before .before .before .before .before .number-at2 .result) (c .before .before .before .before .before .before .before .number-at3 .result) (c .before .before .before .before .load-pairs .result) (c .before .before .before .load-pairs2 .result) (c .before .before .load8 .result) (c .before .load82 .result) (c .load16 .result)
+read c = steps-read _ (c .before .before .before .before .before .before .before .before .before .number-at .ensures) (c .before .before .before .before .before .before .before .before .number-at2 .ensures) (c .before .before .before .before .before .before .before .number-at3 .ensures) (c .before .before .before .before .load-pairs .ensures) (c .before .before .before .load-pairs2 .ensures) (c .before .before .load8 .ensures) (c .before .load82 .ensures) (c .load16 .ensures)
+
+credit-requires : tie.Need-credit-requires
+credit-requires c κs = credit-ready _ _ (c .before .before .before .before .before .before .before .before .before .before .before .before .pre .1) (read c)
+
+draw-all-requires : tie.Need-draw-all-requires
+draw-all-requires c κs = draw-ready _ _ (c .before .before .before .before .before .before .before .before .before .before .before .before .before .before .before .before .pre .1) (read (c .before .before .before .before))
+
+cycle-ends-requires : tie.Need-cycle-ends-requires
+cycle-ends-requires c κs = gone-low _ _ (c .before .before .before .before .before .before .before .before .before .before .before .before .before .before .before .before .before .before .before .pre .1) (c .before .before .before .before .before .before .before .before .before .before .before .before .number-at5 .ensures)
+
+lapse-requires : tie.Need-lapse-requires
+lapse-requires c κs = search needs
+
+write-lists-requires : tie.Need-write-lists-requires
+write-lists-requires c κs = output-room _ _ (c .before .before .before .before .before .before .before .before .before .before .before .before .before .before .before .before .before .before .before .before .before .before .before .before .before .before .before .pre .1) (read (c .before .before .before .before .before .before .before .before .before .before .before .before .before .before .before)) refl
+
+same-length : tie.Need-same-length
+same-length c = search needs
+
+returns : tie.Need-returns
+returns c = lists-are _ _ (c .before .before .before .before .before .before .before .before .before .before .before .before .before .before .before .before .before .before .before .before .before .before .before .before .before .before .before .before .before .before .pre .1) (read (c .before .before .before .before .before .before .before .before .before .before .before .before .before .before .before .before .before .before)) (c .before .before .before .before .before .before .before .before .before .before .before .before .before .before .before .before .before .credit .ensures) (c .before .before .before .before .before .before .before .before .before .before .before .before .before .draw-all .ensures) (ends-so _ (c .before .before .before .before .before .before .before .before .before .before .before .before .before .before .before .before .before .before .before .before .before .before .before .number-at5 .ensures) (c .before .before .before .before .before .before .before .before .before .before .before .before .before .before .before .before .before .before .before .before .before .before .before .before .number-at4 .ensures) (c .before .before .before .before .before .before .before .before .before .before .cycle-ends .ensures)) (c .before .before .before .before .before .before .before .before .before .lapse .ensures) (c .before .before .write-lists .ensures)
+
+pub close-lists-spec : {M : Type 1} → statement M
+close-lists-spec =
+    tie.close
+    (tie.spec
+    number-at-requires
+    number-at-requires-2
+    number-at-requires-3
+    number-at-requires-4
+    number-at-requires-5
+    load-pairs-requires
+    load-pairs-requires-2
+    load8-requires
+    load8-requires-2
+    load16-requires
+    credit-requires
+    draw-all-requires
+    cycle-ends-requires
+    lapse-requires
+    write-lists-requires
+    same-length
+    returns)

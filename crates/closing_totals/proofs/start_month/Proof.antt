@@ -1,0 +1,40 @@
+-- `closing_totals::start_month` meets its contract: two counts are written. Assumes nothing.
+use mathlib.Core.Path.{_∙_}
+use borrow.Author.Needs.{needs}
+use Rattle.closing_totals.specs.Totals.{countsAfter}
+use Rattle.closing_totals.proofs.start_month.Statement.{statement}
+use Rattle.closing_totals.proofs.start_month.Tie as tie
+
+number-at-requires : tie.Need-number-at-requires
+number-at-requires c κs = search needs
+
+number-at-requires-2 : tie.Need-number-at-requires-2
+number-at-requires-2 c κs = search needs
+
+months-gone-requires : tie.Need-months-gone-requires
+months-gone-requires c κs = search needs
+
+put-at-requires : tie.Need-put-at-requires
+put-at-requires c κs = search needs
+
+put-at-requires-2 : tie.Need-put-at-requires-2
+put-at-requires-2 c κs = search needs
+
+same-length : tie.Need-same-length
+same-length c = search needs
+
+returns : tie.Need-returns
+unfolding countsAfter
+returns c = c .before .before .put-at2 .ensures .0 ∙ rw (c .before .before .before .before .before .before .put-at .ensures .0, c .before .before .before .before .before .before .before .before .months-gone .ensures, c .before .before .before .before .before .before .before .before .before .before .before .number-at .ensures, c .before .before .before .before .before .before .before .before .before .number-at2 .ensures)
+
+pub start-month-spec : {M : Type 1} → statement M
+start-month-spec =
+    tie.close
+    (tie.spec
+    number-at-requires
+    number-at-requires-2
+    months-gone-requires
+    put-at-requires
+    put-at-requires-2
+    same-length
+    returns)

@@ -1,0 +1,53 @@
+-- What a closing makes of a record's numbers where they stand, by its output. Assumes nothing.
+use Prim.Native.Nat.{ℕ, _+_, _*_, _≤_}
+use mathlib.Core.Path.{_≡_}
+use mathlib.Core.List.{List}
+use lib.Dec.{eqb}
+use lib.ListN.{length, getD, set}
+use Rattle.lists.specs.Choice.{if_then_else_}
+use Rattle.arrays.specs.Bounds.{Moderate}
+use Rattle.record.specs.SoundLaws.{Facts}
+use Rattle.layout_rules.specs.OnBytes.{bookIn}
+use Rattle.layout_rules.specs.Raised.{raised, from}
+use Rattle.layout_rules.specs.Replaced.{replaced}
+use Rattle.raising.specs.Raise.{rowSum, columnSum}
+use Rattle.bank.specs.Closing.{closingOutput}
+
+-- months gone after the month that closes; a new cycle starts at 0
+unfoldable pub monthsGone : (gone cycle : ℕ) → ℕ
+monthsGone gone cycle = if eqb (gone + 1) cycle then 0 else gone + 1
+
+-- the months gone, and no block in the month
+unfoldable pub countsAfter : List ℕ → List ℕ
+countsAfter ws = set (set ws 4 (monthsGone (getD ws 4 0) (getD ws 3 0))) 6 0
+
+-- for n generators and m consumers, by the output: drawn pairs; charge, lapsed and bank by generator; open and supplied by consumer
+module _ (n m : ℕ) (out ws : List ℕ) where
+  -- charge, drawn and lapsed by generator, drawn and supplied by consumer
+  unfoldable pub totalsRaised : List ℕ
+  totalsRaised =
+      raised (from 687) m (λ c. getD out (n * m + 3 * n + m + c) 0)
+      (raised (from 671) m (columnSum n m out 0)
+      (raised (from 599) n (λ g. getD out (n * m + n + g) 0)
+      (raised (from 591) n (rowSum m out 0)
+      (raised (from 583) n (λ g. getD out (n * m + g) 0) ws))))
+
+  -- the bank is that of the output, and nothing is pending or open
+  unfoldable pub stocksReplaced : List ℕ
+  stocksReplaced =
+      replaced (from 703) m (λ c. 0)
+      (replaced (from 615) n (λ g. 0)
+      (replaced (from 607) n (λ g. getD out (n * m + 2 * n + g) 0) ws))
+
+-- the lists of a closing of n generators and m consumers, with no number that is more than a sound record's
+pub record OutputLists (n m : ℕ) (out : List ℕ) : Type 0 where
+  pub generators-few : n ≤ 8
+  pub consumers-few : m ≤ 16
+  pub size : length out ≡ n * m + 3 * n + 2 * m
+  pub moderate : Moderate out
+
+-- the bytes s hold a sound record, and the lists of its closing stand in out
+pub record Listed (s out : List ℕ) : Type 0 where
+  pub size : length s ≡ 5752
+  pub sound : Facts (bookIn s)
+  pub output : out ≡ closingOutput (bookIn s)

@@ -1,0 +1,23 @@
+-- The numbers that a closing changes, one list after the other. Assumes nothing.
+use Prim.Native.Nat.{ℕ, _+_, _*_}
+use mathlib.Core.Path.{_≡_, _∙_}
+use mathlib.Core.List.{List}
+use lib.ListN.{length, getD}
+use Rattle.codec.specs.Bytes.{decode}
+use Rattle.layout_rules.specs.Raised.{from}
+use Rattle.raising.specs.Raise.{rowSum, columnSum, Raised, Replaced}
+use Rattle.closing_totals.specs.Totals.{totalsRaised, stocksReplaced}
+
+module _ (n m : ℕ) (out s : List ℕ) where
+  pub totals-all : {t u v w x : List ℕ} →
+      Raised (from 583) n (λ g. getD out (n * m + g) 0) s t → Raised (from 591) n (rowSum m out 0) t u → Raised (from 599) n (λ g. getD out (n * m + n + g) 0) u v →
+      Raised (from 671) m (columnSum n m out 0) v w → Raised (from 687) m (λ c. getD out (n * m + 3 * n + m + c) 0) w x →
+      decode 8 719 x ≡ totalsRaised n m out (decode 8 719 s)
+  unfolding totalsRaised
+  totals-all a b c d e = e .is ∙ rw (d .is, c .is, b .is, a .is)
+
+  pub stocks-all : {t u v : List ℕ} →
+      Replaced (from 607) n (λ g. getD out (n * m + 2 * n + g) 0) s t → Replaced (from 615) n (λ g. 0) t u → Replaced (from 703) m (λ c. 0) u v →
+      decode 8 719 v ≡ stocksReplaced n m out (decode 8 719 s)
+  unfolding stocksReplaced
+  stocks-all a b c = c .is ∙ rw (b .is, a .is)
