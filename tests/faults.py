@@ -42,30 +42,30 @@ READER = Tested("the reader", "reader.py", "table", REPOSITORY / "tests" / "read
 FAULTS = {
     # opening
     "opening: gone equal to the cycle allowed":
-        ("opening/src/lib.rt", "& (gone < cycle)", "& (gone <= cycle)"),
+        ("opening_refusal/src/lib.rt", "& (gone < cycle)", "& (gone <= cycle)"),
     "opening: kind 4 allowed":
-        ("opening/src/lib.rt", "n, 0, record::LAST_KIND", "n, 0, 4"),
+        ("opening_refusal/src/lib.rt", "n, 0, record::LAST_KIND", "n, 0, 4"),
     "opening: links over 1 allowed":
-        ("opening/src/lib.rt", "any_outside(pair_list, 0, count, 0, 1)",
+        ("opening_refusal/src/lib.rt", "any_outside(pair_list, 0, count, 0, 1)",
          "any_outside(pair_list, 0, count, 0, 2)"),
     "opening: rate of 5,001 allowed":
-        ("opening/src/lib.rt", "record::MOST_RATE", "5_001"),
+        ("opening_refusal/src/lib.rt", "record::MOST_RATE", "5_001"),
     "opening: losses read from the links":
         ("opening/src/lib.rt", "spread(list, n * m, n, m)", "spread(list, 0, n, m)"),
     "opening: longer pair list allowed":
-        ("opening/src/lib.rt", "pair_list.len() == 2 * (n * m)",
+        ("opening_refusal/src/lib.rt", "pair_list.len() == 2 * (n * m)",
          "2 * (n * m) <= pair_list.len()"),
     "opening: 16 consumers refused":
-        ("opening/src/lib.rt", "(m <= 16)", "(m <= 15)"),
+        ("opening_refusal/src/lib.rt", "(m <= 16)", "(m <= 15)"),
     # schedule
     "schedule: refusal 8 before 7":
-        ("schedule/src/lib.rt", "first(unlinked, 7, lists::first(over, 8,",
+        ("schedule_refusal/src/lib.rt", "first(unlinked, 7, lists::first(over, 8,",
          "first(over, 8, lists::first(unlinked, 7,"),
     "schedule: rank 0 allowed":
-        ("schedule/src/lib.rt", "any_outside(ranks, 0, count, 1,",
+        ("schedule_refusal/src/lib.rt", "any_outside(ranks, 0, count, 1,",
          "any_outside(ranks, 0, count, 0,"),
     "schedule: kW on unlinked pairs allowed":
-        ("schedule/src/lib.rt", "(0 < kws[from + c])", "(400_000 < kws[from + c])"),
+        ("schedule_refusal/src/lib.rt", "(0 < kws[from + c])", "(400_000 < kws[from + c])"),
     "schedule: kW stored as ranks":
         ("schedule/src/lib.rt", "spread(ranks, 0, n, m)", "spread(kws, 0, n, m)"),
     # block
@@ -78,11 +78,11 @@ FAULTS = {
          "first(counts.blocks < record::MOST_UNIT_BLOCKS, "
          "lists::first(record::MOST_MONTH_BLOCKS <= counts.month, 11, 0), unit_full)"),
     "block: month blocks not raised":
-        ("block_totals/src/lib.rt", "storing::add_at(s, MONTH, 1);",
-         "storing::add_at(s, MONTH, 0);"),
+        ("block_totals/src/lib.rt", "add_at(s, layout_rules::MONTH, 1);",
+         "add_at(s, layout_rules::MONTH, 0);"),
     "block: metered by remainder":
-        ("block_totals/src/lib.rt", "raise_readings(s, METERED, exit);",
-         "raise_numbers(s, METERED, out, 4 * size + n, m);"),
+        ("block_totals/src/lib.rt", "raise_readings(s, layout_rules::METERED, exit);",
+         "raise_numbers(s, layout_rules::METERED, out, 4 * size + n, m);"),
     "block: shortfall listed as underdrawn":
         ("block_settlement/src/lib.rt", "put_column_at(out, 3 * size, n, m, c, shortfall);",
          "put_column_at(out, 3 * size, n, m, c, underdrawn);"),
@@ -94,16 +94,18 @@ FAULTS = {
     "block: loss to the nearest":
         ("energy/src/lib.rt", "rate + 9_999)", "rate + 5_000)"),
     "block: running shares rounded up":
-        ("energy/src/lib.rt", "let share = k * sum / all;",
+        ("sharing/src/lib.rt", "let share = k * sum / all;",
          "let share = (k * sum + all - 1) / all;"),
     "block: shortfall is what is not used of it":
         ("block_settlement/src/lib.rt", "c, &taken, &has, &short, rest)",
          "c, &taken, &has, &gap, rest)"),
     # closing
     "closing: open not reset":
-        ("closing_totals/src/lib.rt", "    after.outstanding = none;\n", ""),
+        ("closing_totals/src/lib.rt",
+         "    raising::clear_numbers(s, layout_rules::OUTSTANDING, m);\n", ""),
     "closing: pending not reset":
-        ("closing_totals/src/lib.rt", "    after.pending = none;\n", ""),
+        ("closing_totals/src/lib.rt",
+         "    raising::clear_numbers(s, layout_rules::PENDING, n);\n", ""),
     "closing: lapsed and bank swapped in the output":
         ("closing/src/lib.rt", "arrays::put8(out, second, &lapsed, n);\n"
          "    arrays::put8(out, third, &balance, n);",
@@ -119,32 +121,32 @@ FAULTS = {
     "closing: all consumers draw what the first lacks":
         ("bank/src/lib.rt", "link, c, outstanding[c])", "link, c, outstanding[0])"),
     "closing: months gone not reset":
-        ("closing_totals/src/lib.rt", "        0\n    } else {\n        counts.gone + 1",
-         "        counts.gone\n    } else {\n        counts.gone + 1"),
+        ("closing_totals/src/lib.rt", "{ 0 } else { gone + 1 }", "{ gone } else { gone + 1 }"),
     # soundness
     "sound: month blocks over unit blocks allowed":
-        ("record/src/lib.rt", "(n.month <= n.blocks)", "(n.month <= n.month)"),
+        ("sound_items/src/lib.rt", "(n.month <= n.blocks)", "(n.month <= n.month)"),
     "sound: gone equal to the cycle allowed":
-        ("record/src/lib.rt", "(n.gone < t.cycle)", "(n.gone <= t.cycle)"),
+        ("sound_items/src/lib.rt", "(n.gone < t.cycle)", "(n.gone <= t.cycle)"),
     "sound: full month refused":
-        ("record/src/lib.rt", "(n.month <= MOST_MONTH_BLOCKS)", "(n.month < MOST_MONTH_BLOCKS)"),
+        ("sound_items/src/lib.rt", "(n.month <= record::MOST_MONTH_BLOCKS)",
+         "(n.month < record::MOST_MONTH_BLOCKS)"),
     "sound: full unit refused":
         ("record/src/lib.rt", "MOST_UNIT_BLOCKS: u64 = 10_000_000",
          "MOST_UNIT_BLOCKS: u64 = 9_999_999"),
     "sound: totals by age one low":
-        ("record/src/lib.rt",
+        ("sound_items/src/lib.rt",
          "energy::MOST_READING * blocks;\n        let split = capped(x.unaccounted)",
          "199_999_999 * blocks;\n        let split = capped(x.unaccounted)"),
     "sound: totals by age one high":
-        ("record/src/lib.rt",
+        ("sound_items/src/lib.rt",
          "energy::MOST_READING * blocks;\n        let split = capped(x.unaccounted)",
          "energy::MOST_READING * blocks + 1;\n        let split = capped(x.unaccounted)"),
     "sound: kW on an unlinked pair allowed":
-        ("record/src/lib.rt", "((link == 1) | (kw == 0))", "((link <= 1) | (kw == 0))"),
+        ("sound_items/src/lib.rt", "((link == 1) | (kw == 0))", "((link <= 1) | (kw == 0))"),
     "sound: rank 256 allowed":
         ("record/src/lib.rt", "MOST_RANK: u64 = 255", "MOST_RANK: u64 = 256"),
     "sound: supplied counted for open":
-        ("record/src/lib.rt", "+ capped(x.outstanding)", "+ capped(x.supplied)"),
+        ("sound_items/src/lib.rt", "+ capped(x.outstanding)", "+ capped(x.supplied)"),
     "sound: totals beyond G allowed":
         ("soundness/src/lib.rt", "generator_sound(blocks, g < n, generator_terms(s, g))",
          "generator_sound(blocks, g < 8, generator_terms(s, g))"),
@@ -166,14 +168,14 @@ FAULTS = {
         ("storing/src/lib.rt", "store128(link, s, layout_rules::LINK);",
          "store128(link, s, layout_rules::LOSS);",
          "store128(loss, s, layout_rules::LOSS);", "store128(loss, s, layout_rules::LINK);"),
-    "bytes: counts of a block stored one place late":
-        ("storing/src/lib.rt", "&mut s[32..56]", "&mut s[40..64]"),
+    "bytes: months gone written one place late":
+        ("layout_rules/src/lib.rt", "GONE: usize = 4;", "GONE: usize = 5;"),
     "bytes: charge loaded from drawn":
-        ("loading/src/lib.rt", "let charge = load8(s, layout_rules::GENERATORS + 40);",
-         "let charge = load8(s, layout_rules::GENERATORS + 48);"),
+        ("loading/src/lib.rt", "let charge = load8(s, layout_rules::CHARGE);",
+         "let charge = load8(s, layout_rules::GENERATOR_DRAWN);"),
     "bytes: consumers stored one place early":
-        ("storing/src/lib.rt", "store16(supplied, s, layout_rules::CONSUMERS + 64);",
-         "store16(supplied, s, layout_rules::CONSUMERS + 63);"),
+        ("storing/src/lib.rt", "store16(supplied, s, layout_rules::SUPPLIED);",
+         "store16(supplied, s, layout_rules::SUPPLIED - 1);"),
     # reader: sizes and names
     "reader: G = 9 allowed":
         ("table/src/lib.rt", "if 8 < g {", "if 9 < g {"),

@@ -10,7 +10,7 @@ use Rattle.lists.specs.Tests.{some, within}
 use Rattle.lists.specs.Pairs.{cell}
 use Rattle.lists.specs.Refusals.{firstOf}
 use Rattle.energy.specs.Limits.{mostGenerators, mostConsumers, lastKind, mostCapacity, mostLoss, mostRate, mostCycle}
-use Rattle.delivery.specs.Plan.{Plan}
+use Rattle.delivery_rules.specs.Plan.{Plan}
 use Rattle.record.specs.Book.{Book, noInjection, noConsumption}
 use Rattle.record.specs.Stored.{stored, zeros}
 use Rattle.record.specs.declared.Record.{Record}

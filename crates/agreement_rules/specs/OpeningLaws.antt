@@ -15,7 +15,7 @@ use Rattle.lists.specs.Pairs.{cell}
 use Rattle.lists.specs.PairsLaws.{cell-out, cell-all}
 use Rattle.lists.specs.Refusals.{firstOf, first-head, first-tail, first-none, first-end, first-or}
 use Rattle.energy.specs.Limits.{mostGenerators, mostConsumers, lastKind, mostCapacity, mostLoss, mostRate, mostCycle}
-use Rattle.delivery.specs.Plan.{Plan, scheduled}
+use Rattle.delivery_rules.specs.Plan.{Plan, scheduled}
 use Rattle.record.specs.Book.{Book, noInjection, noConsumption}
 use Rattle.record.specs.SoundLaws.{Facts, CountsFacts, AgreedFacts, PairFacts, no-injection, no-consumption}
 use Rattle.agreement_rules.specs.Opening.{Opening, kindOf, installedOf, contractedOf, linkOf, rateOfLoss, openingRefusal, opened, Permitted}

@@ -15,7 +15,7 @@ use Rattle.lists.specs.Pairs.{cell}
 use Rattle.lists.specs.PairsLaws.{cell-out, cell-all}
 use Rattle.lists.specs.Refusals.{firstOf, first-head, first-tail, first-or}
 use Rattle.energy.specs.Limits.{mostRank}
-use Rattle.delivery.specs.Plan.{Plan, scheduled}
+use Rattle.delivery_rules.specs.Plan.{Plan, scheduled}
 use Rattle.record.specs.Book.{Book}
 use Rattle.record.specs.Called.{Rule}
 use Rattle.record.specs.CalledLaws.{Keeps}

@@ -8,9 +8,9 @@ use Rattle.lists.specs.Tables.{table}
 use Rattle.lists.specs.Pairs.{place, cell, pairs}
 use Rattle.energy.specs.Energy.{portionUp}
 use Rattle.energy.specs.Limits.{mostRate}
-use Rattle.settling.specs.Settle.{given, kept, unmet}
-use Rattle.delivery.specs.Plan.{Plan, suppliers}
-use Rattle.bank.specs.Drawing.{stockAt, drawnAt, missingAt}
+use Rattle.order_rules.specs.Settle.{given, kept, unmet}
+use Rattle.delivery_rules.specs.Plan.{Plan, suppliers}
+use Rattle.closing_rules.specs.Drawing.{stockAt, drawnAt, missingAt}
 use Rattle.bank.specs.declared.Bank.{Bank}
 use Rattle.bank.specs.declared.Credit.{Credit}
 use Rattle.bank.specs.declared.Draw.{Draw}

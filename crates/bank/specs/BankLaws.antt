@@ -11,9 +11,9 @@ use Rattle.lists.specs.Pairs.{place, cell}
 use Rattle.lists.specs.PairsLaws.{place-in}
 use Rattle.energy.specs.Energy.{portionUp}
 use Rattle.energy.specs.EnergyLaws.{portion-le}
-use Rattle.order.specs.Order.{only, inOrder}
-use Rattle.order.specs.Members.{Below}
-use Rattle.settling.specs.Settle.{given, kept, unmet}
+use Rattle.order_rules.specs.Order.{only, inOrder}
+use Rattle.order_rules.specs.Members.{Below}
+use Rattle.order_rules.specs.Settle.{given, kept, unmet}
 use Rattle.order.specs.Arrays.{column-read}
 use Rattle.settling.specs.Settling.{Settled, settled, settledBy, settled-table}
 use Rattle.bank.specs.declared.Bank.{Bank}

@@ -9,12 +9,12 @@ use Rattle.lists.specs.Sums.{sum-part}
 use Rattle.lists.specs.Tables.{table, Filling, fill-start, fill-step, fill-rest}
 use Rattle.lists.specs.Pairs.{place, cell}
 use Rattle.energy.specs.Limits.{mostRank}
-use Rattle.order.specs.Members.{below-more}
-use Rattle.settling.specs.Settle.{given}
-use Rattle.settling.specs.SettleLaws.{given-sum, unmet-le, kept-is}
-use Rattle.delivery.specs.Plan.{Plan, suppliers}
-use Rattle.delivery.specs.DeliveryLaws.{suppliers-within}
-use Rattle.bank.specs.Drawing.{stockAt, drawnAt, missingAt}
+use Rattle.order_rules.specs.Members.{below-more}
+use Rattle.order_rules.specs.Settle.{given}
+use Rattle.order_rules.specs.SettleLaws.{given-sum, unmet-le, kept-is}
+use Rattle.delivery_rules.specs.Plan.{Plan, suppliers}
+use Rattle.delivery_rules.specs.DeliveryLaws.{suppliers-within}
+use Rattle.closing_rules.specs.Drawing.{stockAt, drawnAt, missingAt}
 use Rattle.bank.specs.declared.Bank.{Bank}
 use Rattle.bank.specs.declared.Draw.{Draw}
 use Rattle.bank.specs.declared.Drawing.{Drawing}

@@ -6,7 +6,7 @@ ghost use lib.Dec.{eqb};
 ghost use lib.ListN.{length};
 ghost use Rattle.lists.specs.Pairs.{cell};
 ghost use Rattle.energy.specs.Limits.{mostRank};
-ghost use Rattle.order.specs.Order.{inOrder, only};
+ghost use Rattle.order_rules.specs.Order.{inOrder, only};
 ghost use Rattle.bank.specs.Arrays.{Creditable, creditOf, drawOf, drawingOf, lapseOf, linkPlan};
 ghost use Rattle.bank.specs.DrawingLaws.{Drawable};
 use energy::Wh;

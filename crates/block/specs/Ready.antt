@@ -5,9 +5,9 @@ use mathlib.Core.List.{List}
 use native.Mathlib.Omega.{arith}
 use lib.ListN.{length, getD}
 use Rattle.codec.specs.Bytes.{encode, decode}
-use Rattle.delivery.specs.DeliveredIn.{DeliveredIn}
-use Rattle.settlement.specs.Settlement.{blockOutput}
-use Rattle.settlement.specs.Places.{output-back}
+use Rattle.delivery_rules.specs.DeliveredIn.{DeliveredIn}
+use Rattle.settlement_rules.specs.Settlement.{blockOutput}
+use Rattle.settlement_rules.specs.Places.{output-back}
 use Rattle.record.specs.Words.{words, recordOf}
 use Rattle.record.specs.Stored.{planOf, figures, stored}
 use Rattle.record.specs.Called.{numberOn}

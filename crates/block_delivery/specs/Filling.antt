@@ -9,9 +9,9 @@ use lib.ListN.{length, set, length-set, getD}
 use lib.Seq.{getD-set-same, getD-set-other}
 use Rattle.lists.specs.PairsLaws.{row-of, column-of, cell-index}
 use Rattle.energy.specs.Limits.{mostGenerators, mostConsumers}
-use Rattle.delivery.specs.Plan.{Plan}
-use Rattle.delivery.specs.Delivery.{unaccounted, lossOf, delivered, atExit}
-use Rattle.delivery.specs.DeliveredIn.{DeliveredIn}
+use Rattle.delivery_rules.specs.Plan.{Plan}
+use Rattle.delivery_rules.specs.Delivery.{unaccounted, lossOf, delivered, atExit}
+use Rattle.delivery_rules.specs.DeliveredIn.{DeliveredIn}
 use Rattle.block_pair.specs.declared.Pair.{Pair}
 use Rattle.block_delivery.specs.RowLaws.{PairOf}
 

@@ -4,7 +4,7 @@ use mathlib.Core.List.{List}
 use mathlib.Core.Path.{_≡_}
 use lib.ListN.{length}
 use Rattle.lists.specs.Pairs.{place}
-use Rattle.delivery.specs.Deliverable.{Deliverable}
+use Rattle.delivery_rules.specs.Deliverable.{Deliverable}
 use Rattle.layout_rules.specs.OnBytes.{planIn}
 
 abbrev pub entriesIn : List ℕ → List ℕ → ℕ → ℕ

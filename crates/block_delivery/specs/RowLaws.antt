@@ -16,12 +16,12 @@ use Rattle.lists.specs.Pairs.{place}
 use Rattle.lists.specs.PairsLaws.{place-table}
 use Rattle.energy.specs.Energy.{quarterHour, lossOn}
 use Rattle.energy.specs.Limits.{mostCapacity, mostReading}
-use Rattle.energy.specs.Share.{part, shared}
-use Rattle.energy.specs.ShareLaws.{part-le-whole, part-wide, shared-within}
-use Rattle.delivery.specs.Plan.{Plan, deemed, scheduled}
-use Rattle.delivery.specs.Delivery.{counted, partOf, lossOf, delivered, atExit}
-use Rattle.delivery.specs.DeliveryLaws.{counted-le, delivered-le}
-use Rattle.delivery.specs.Deliverable.{Deliverable}
+use Rattle.sharing.specs.Share.{part, shared}
+use Rattle.sharing.specs.ShareLaws.{part-le-whole, part-wide, shared-within}
+use Rattle.delivery_rules.specs.Plan.{Plan, deemed, scheduled}
+use Rattle.delivery_rules.specs.Delivery.{counted, partOf, lossOf, delivered, atExit}
+use Rattle.delivery_rules.specs.DeliveryLaws.{counted-le, delivered-le}
+use Rattle.delivery_rules.specs.Deliverable.{Deliverable}
 use Rattle.block_counting.specs.Counting.{countedOf}
 use Rattle.block_pair.specs.OnePair.{gapOf, PairReady, PairDone}
 use Rattle.block_pair.specs.declared.Pair.{Pair}

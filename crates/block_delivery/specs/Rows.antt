@@ -5,8 +5,8 @@ use mathlib.Core.Path.{_≡_}
 use lib.ListN.{length, getD}
 use Rattle.lists.specs.Tables.{table}
 use Rattle.energy.specs.Limits.{mostGenerators, mostConsumers}
-use Rattle.delivery.specs.Plan.{Plan}
-use Rattle.delivery.specs.Delivery.{partOf}
+use Rattle.delivery_rules.specs.Plan.{Plan}
+use Rattle.delivery_rules.specs.Delivery.{partOf}
 use Rattle.block_pair.specs.OnePair.{PairReady}
 use Rattle.layout_rules.specs.OnBytes.{planIn}
 

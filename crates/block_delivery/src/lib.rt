@@ -6,7 +6,7 @@ ghost use Prim.Native.Nat.{ℕ, _+_, _*_, _<_, _≤_};
 ghost use lib.ListN.{length, getD};
 ghost use Rattle.lists.specs.Tables.{table};
 ghost use Rattle.energy.specs.Limits.{mostCapacity};
-ghost use Rattle.delivery.specs.DeliveredIn.{DeliveredIn};
+ghost use Rattle.delivery_rules.specs.DeliveredIn.{DeliveredIn};
 ghost use Rattle.layout_rules.specs.OnBytes.{planIn};
 ghost use Rattle.block_delivery.specs.Lent.{entriesIn, Ready};
 ghost use Rattle.block_delivery.specs.Rows.{RowReady, RowOf};
@@ -87,7 +87,7 @@ fn deliver_one(
     let scheduled = block_counting::scheduled_kw(row);
     let reading = entry[g];
     let counts = block_counting::counted(kind, scheduled, reading);
-    let parts = energy::share(counts, row);
+    let parts = sharing::share(counts, row);
     deliver_row(s, n, m, g, kind, &row, &parts, out);
     out[4 * (n * m) + g] = lists::wide(reading - counts);
 }

@@ -5,7 +5,7 @@ use mathlib.Core.List.{List}
 use lib.ListN.{length}
 use Rattle.energy.specs.Limits.{mostGenerators, mostConsumers, mostRank}
 use Rattle.arrays.specs.Bounds.{Moderate}
-use Rattle.delivery.specs.Deliverable.{Deliverable}
+use Rattle.delivery_rules.specs.Deliverable.{Deliverable}
 use Rattle.record.specs.Stored.{planOf, figures}
 use Rattle.record.specs.SoundLaws.{Facts}
 use Rattle.record.specs.Called.{numberOn}

@@ -16,10 +16,10 @@ use Rattle.lists.specs.Pairs.{place, pairs, joined}
 use Rattle.lists.specs.PairsLaws.{place-out, place-in, length-pairs}
 use Rattle.lists.specs.Refusals.{firstOf, first-head, first-tail, first-or}
 use Rattle.energy.specs.Limits.{mostReading, mostMonthBlocks, mostUnitBlocks}
-use Rattle.delivery.specs.Plan.{Plan, deemed}
-use Rattle.delivery.specs.Delivery.{unaccounted, lossOf}
-use Rattle.settlement.specs.Settlement.{setOff, underdrawn, shortfall, remainder, blockLists, blockOutput}
-use Rattle.settlement.specs.SettlementLaws.{entry-split, exit-split}
+use Rattle.delivery_rules.specs.Plan.{Plan, deemed}
+use Rattle.delivery_rules.specs.Delivery.{unaccounted, lossOf}
+use Rattle.settlement_rules.specs.Settlement.{setOff, underdrawn, shortfall, remainder, blockLists, blockOutput}
+use Rattle.settlement_rules.specs.SettlementLaws.{entry-split, exit-split}
 use Rattle.record.specs.Book.{Book, splitOfInjected, splitOfMetered}
 use Rattle.record.specs.Called.{Rule}
 use Rattle.record.specs.CalledLaws.{Keeps}

@@ -14,15 +14,15 @@ use Rattle.lists.specs.Pairs.{place, cell, pairs}
 use Rattle.lists.specs.PairsLaws.{pairs-table}
 use Rattle.energy.specs.Limits.{mostReading, mostCapacity}
 use Rattle.energy.specs.Energy.{quarterHour, lossOn}
-use Rattle.energy.specs.Share.{part}
-use Rattle.energy.specs.ShareLaws.{part-none, part-le}
+use Rattle.sharing.specs.Share.{part}
+use Rattle.sharing.specs.ShareLaws.{part-none, part-le}
 use Rattle.arrays.specs.Bounds.{mostFigure, Moderate}
 use Rattle.arrays.specs.BoundsLaws.{moderate-table, moderate-rows, no-more, and-then, moderate-joined}
-use Rattle.delivery.specs.Plan.{Plan, deemed}
-use Rattle.delivery.specs.Delivery.{counted, unaccounted, partOf, lossOf, delivered, atExit}
-use Rattle.delivery.specs.DeliveryLaws.{counted-le, lossOf-le}
-use Rattle.settlement.specs.Settlement.{setOff, underdrawn, shortfall, remainder, blockLists, blockOutput}
-use Rattle.settlement.specs.SettlementLaws.{setOff-le, shortfall-le, entry-split, exit-split}
+use Rattle.delivery_rules.specs.Plan.{Plan, deemed}
+use Rattle.delivery_rules.specs.Delivery.{counted, unaccounted, partOf, lossOf, delivered, atExit}
+use Rattle.delivery_rules.specs.DeliveryLaws.{counted-le, lossOf-le}
+use Rattle.settlement_rules.specs.Settlement.{setOff, underdrawn, shortfall, remainder, blockLists, blockOutput}
+use Rattle.settlement_rules.specs.SettlementLaws.{setOff-le, shortfall-le, entry-split, exit-split}
 use Rattle.record.specs.Stored.{planOf, figures}
 use Rattle.record.specs.SoundLaws.{Facts, kw-most}
 use Rattle.record.specs.declared.Record.{Record}

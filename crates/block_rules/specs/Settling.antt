@@ -2,7 +2,7 @@
 use Prim.Native.Nat.{ℕ}
 use mathlib.Core.List.{List}
 use native.Mathlib.Omega.{arith}
-use Rattle.settlement.specs.Settleable.{Settleable}
+use Rattle.settlement_rules.specs.Settleable.{Settleable}
 use Rattle.record.specs.Book.{Book}
 use Rattle.record.specs.SoundLaws.{Facts, pair-beyond}
 use Rattle.block_rules.specs.Block.{entryOf, exitOf}

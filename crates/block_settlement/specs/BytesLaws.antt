@@ -8,9 +8,9 @@ use Rattle.lists.specs.Tables.{table}
 use Rattle.lists.specs.Pairs.{place}
 use Rattle.lists.specs.PairsLaws.{cell-in}
 use Rattle.codec.specs.Bytes.{decode}
-use Rattle.order.specs.Order.{inOrder}
+use Rattle.order_rules.specs.Order.{inOrder}
 use Rattle.order.specs.Arrays.{upto, column-read}
-use Rattle.delivery.specs.Plan.{order}
+use Rattle.delivery_rules.specs.Plan.{order}
 use Rattle.record.specs.Words.{recordOf}
 use Rattle.record.specs.Stored.{planOf}
 use Rattle.layout_rules.specs.Places.{rank-place}

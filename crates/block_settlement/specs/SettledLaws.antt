@@ -9,15 +9,15 @@ use lib.ListN.{length, getD, length-set}
 use lib.Seq.{getD-set-same, getD-set-other}
 use Rattle.lists.specs.PairsLaws.{cell-index}
 use Rattle.order.specs.Arrays.{upto}
-use Rattle.order.specs.Members.{order-below}
-use Rattle.settling.specs.Settle.{given, unmet}
-use Rattle.settling.specs.SettleLaws.{kept-is}
+use Rattle.order_rules.specs.Members.{order-below}
+use Rattle.order_rules.specs.Settle.{given, unmet}
+use Rattle.order_rules.specs.SettleLaws.{kept-is}
 use Rattle.settling.specs.Settling.{settledIn, settled}
-use Rattle.delivery.specs.Plan.{Plan, order}
-use Rattle.delivery.specs.Delivery.{delivered, atExit}
-use Rattle.delivery.specs.DeliveredIn.{DeliveredIn}
-use Rattle.settlement.specs.Settlement.{setOff, afterSetOff, underdrawn, shortfall, remainder, blockOutput}
-use Rattle.settlement.specs.Places.{output-all}
+use Rattle.delivery_rules.specs.Plan.{Plan, order}
+use Rattle.delivery_rules.specs.Delivery.{delivered, atExit}
+use Rattle.delivery_rules.specs.DeliveredIn.{DeliveredIn}
+use Rattle.settlement_rules.specs.Settlement.{setOff, afterSetOff, underdrawn, shortfall, remainder, blockOutput}
+use Rattle.settlement_rules.specs.Places.{output-all}
 use Rattle.columns.specs.Columns.{ColumnGot}
 use Rattle.block_settlement.specs.Settles.{Settles, settles}
 use Rattle.block_settlement.specs.SettledTo.{SettledTo, ConsumerPut}

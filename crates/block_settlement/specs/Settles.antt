@@ -7,9 +7,9 @@ use lib.ListN.{getD}
 use Rattle.lists.specs.Tables.{getD-table}
 use Rattle.lists.specs.Pairs.{place}
 use Rattle.lists.specs.PairsLaws.{place-in}
-use Rattle.order.specs.Members.{Below}
-use Rattle.settling.specs.Settle.{given, kept, unmet}
-use Rattle.settling.specs.SettleLaws.{settle-same}
+use Rattle.order_rules.specs.Members.{Below}
+use Rattle.order_rules.specs.Settle.{given, kept, unmet}
+use Rattle.order_rules.specs.SettleLaws.{settle-same}
 use Rattle.settling.specs.Settling.{Settled, settledIn, settledBy, settled}
 
 pub record Settles (n : ℕ) (gs : List ℕ) (f : ℕ → ℕ) (want : ℕ) (taken rest : List ℕ) (left : ℕ) : Type 0 where

@@ -17,12 +17,12 @@ use Rattle.lists.specs.PairsLaws.{place-in}
 use Rattle.arrays.specs.Bounds.{mostFigure}
 use Rattle.codec.specs.Bytes.{encode, decode}
 use Rattle.codec.specs.BytesLaws.{Below, length-decode}
-use Rattle.delivery.specs.Plan.{Plan, deemed}
-use Rattle.delivery.specs.Delivery.{unaccounted, lossOf}
-use Rattle.settlement.specs.Settlement.{setOff, underdrawn, shortfall, remainder, blockOutput}
-use Rattle.settlement.specs.Settleable.{Settleable}
-use Rattle.settlement.specs.Beyond.{loss-beyond, setOff-beyond, underdrawn-beyond, shortfall-beyond, unaccounted-beyond, remainder-beyond}
-use Rattle.settlement.specs.Places.{Output, output-back}
+use Rattle.delivery_rules.specs.Plan.{Plan, deemed}
+use Rattle.delivery_rules.specs.Delivery.{unaccounted, lossOf}
+use Rattle.settlement_rules.specs.Settlement.{setOff, underdrawn, shortfall, remainder, blockOutput}
+use Rattle.settlement_rules.specs.Settleable.{Settleable}
+use Rattle.settlement_rules.specs.Beyond.{loss-beyond, setOff-beyond, underdrawn-beyond, shortfall-beyond, unaccounted-beyond, remainder-beyond}
+use Rattle.settlement_rules.specs.Places.{Output, output-back}
 use Rattle.record.specs.Stored.{generatorAt, consumerAt, planOf, figures, storedGenerators, storedConsumers, stored}
 use Rattle.record.specs.Shape.{Shape}
 use Rattle.record.specs.SoundLaws.{Facts}

@@ -6,7 +6,7 @@ use lib.Dec.{eqb}
 use lib.ListN.{length, getD}
 use Rattle.lists.specs.Choice.{if_then_else_}
 use Rattle.arrays.specs.Bounds.{Moderate}
-use Rattle.settlement.specs.Settlement.{blockOutput}
+use Rattle.settlement_rules.specs.Settlement.{blockOutput}
 use Rattle.record.specs.SoundLaws.{Facts}
 use Rattle.layout_rules.specs.OnBytes.{bookIn}
 use Rattle.layout_rules.specs.Raised.{raised, from}

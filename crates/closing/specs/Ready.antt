@@ -19,8 +19,8 @@ use Rattle.layout_rules.specs.Layout.{run, links-at, schedule-at, generators-at
 use Rattle.layout_rules.specs.Places.{terms-places, counts-places}
 use Rattle.layout_rules.specs.OnBytes.{recordIn, CalledOn, bookIn}
 use Rattle.layout_rules.specs.OnBytesLaws.{on-accepted, on-refused}
-use Rattle.bank.specs.Closing.{afterClosing, closingOutput, closingRule}
-use Rattle.closing_rules.specs.Accepted.{StepsRead, facts, gone-few}
+use Rattle.closing_rules.specs.Closing.{afterClosing, closingOutput, closingRule}
+use Rattle.closing_steps.specs.Accepted.{StepsRead, facts, gone-few}
 use Rattle.closing_totals.specs.Totals.{Listed}
 
 module _ (s : List ℕ) where

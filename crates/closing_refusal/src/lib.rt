@@ -6,8 +6,8 @@ ghost use lib.ListN.{length};
 ghost use Rattle.codec.specs.Bytes.{decode};
 ghost use Rattle.record.specs.Called.{numberOn};
 ghost use Rattle.record.specs.Words.{recordOf};
-ghost use Rattle.bank.specs.Closing.{closingRule};
-ghost use Rattle.closing_rules.specs.Refusals.{ownRefusal};
+ghost use Rattle.closing_rules.specs.Closing.{closingRule};
+ghost use Rattle.closing_steps.specs.Refusals.{ownRefusal};
 
 // The refusals of a sound record with n generators and m consumers.
 fn own_refusal(n: usize, m: usize, month: u64, size: usize) -> u32

@@ -1,6 +1,4 @@
-pub mod Refusals
-pub mod Month
-pub mod RoomLaws
-pub mod Output
-pub mod Accepted
-pub mod Beyond
+pub mod Drawing
+pub mod Closing
+pub mod ClosingLaws
+pub mod ClosingOutput

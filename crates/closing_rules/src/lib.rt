@@ -1,2 +1,1 @@
-// What a closing does on the lists of a record, and the laws by which its calls are proved: definitions and theorems, in specs/.
-// There is no code here.
+// What a closing is: steps 1 to 4 on a book, in specs/. There is no code here.

@@ -28,10 +28,10 @@ use Rattle.layout_rules.specs.Places.{terms-places, counts-places}
 use Rattle.layout_rules.specs.Kept.{record-shape, read-kept, numbers-low}
 use Rattle.layout_rules.specs.OnBytes.{bookIn}
 use Rattle.raising.specs.Raise.{rowSum, columnSum, Raisable}
-use Rattle.bank.specs.Closing.{charge, drawn, supplied, lapses, goneAfter, lapsed, bankAfter, generatorAfterClosing, consumerAfterClosing, afterClosing, closingLength, closingOutput}
-use Rattle.bank.specs.ClosingOutput.{closing-length, drawn-at, charge-at, lapsed-at, bank-at, supplied-at}
-use Rattle.closing_rules.specs.Beyond.{bank-beyond, pending-beyond, charge-beyond, given-beyond, lapsed-beyond, bank-after-beyond, open-beyond, taken-beyond, supplied-beyond}
-use Rattle.closing_rules.specs.RoomLaws.{closing-output-moderate}
+use Rattle.closing_rules.specs.Closing.{charge, drawn, supplied, lapses, goneAfter, lapsed, bankAfter, generatorAfterClosing, consumerAfterClosing, afterClosing, closingLength, closingOutput}
+use Rattle.closing_rules.specs.ClosingOutput.{closing-length, drawn-at, charge-at, lapsed-at, bank-at, supplied-at}
+use Rattle.closing_steps.specs.Beyond.{bank-beyond, pending-beyond, charge-beyond, given-beyond, lapsed-beyond, bank-after-beyond, open-beyond, taken-beyond, supplied-beyond}
+use Rattle.closing_steps.specs.RoomLaws.{closing-output-moderate}
 use Rattle.closing_totals.specs.Totals.{monthsGone, countsAfter, totalsRaised, stocksReplaced, OutputLists, Listed}
 
 -- the first seven numbers, with other months gone and no block in the month

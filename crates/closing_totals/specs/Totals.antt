@@ -11,7 +11,7 @@ use Rattle.layout_rules.specs.OnBytes.{bookIn}
 use Rattle.layout_rules.specs.Raised.{raised, from}
 use Rattle.layout_rules.specs.Replaced.{replaced}
 use Rattle.raising.specs.Raise.{rowSum, columnSum}
-use Rattle.bank.specs.Closing.{closingOutput}
+use Rattle.closing_rules.specs.Closing.{closingOutput}
 
 -- months gone after the month that closes; a new cycle starts at 0
 unfoldable pub monthsGone : (gone cycle : ℕ) → ℕ

@@ -10,7 +10,7 @@ ghost use Rattle.record.specs.Stored.{stored};
 ghost use Rattle.record.specs.Words.{words};
 ghost use Rattle.layout_rules.specs.OnBytes.{bookIn};
 ghost use Rattle.raising.specs.Raise.{Raisable};
-ghost use Rattle.bank.specs.Closing.{afterClosing};
+ghost use Rattle.closing_rules.specs.Closing.{afterClosing};
 ghost use Rattle.closing_totals.specs.Totals.{monthsGone, countsAfter, totalsRaised, stocksReplaced, OutputLists, Listed};
 
 // Whether the month that closes is the last of its cycle.
@@ -26,11 +26,7 @@ fn months_gone(gone: u64, cycle: u64) -> u64
     requires { ⌜ gone ≤ 12 ⌝ }
     ensures { λ r. ⌜ r ≡ monthsGone gone cycle ⌝ }
 {
-    if cycle_ends(gone, cycle) {
-        0
-    } else {
-        gone + 1
-    }
+    if cycle_ends(gone, cycle) { 0 } else { gone + 1 }
 }
 
 // The next month, which has no block yet.
@@ -49,9 +45,10 @@ fn raise_totals(s: &mut [u8], out: &[u64], n: usize, m: usize)
     ensures { λ _. ⌜ decode 8 719 (now (s .exit)) ≡ totalsRaised n m (now (out .entry)) (decode 8 719 (now (s .entry))) ⌝ }
 {
     let size = n * m;
+    let lapsed = size + n;
     raising::raise_numbers(s, layout_rules::CHARGE, out, size, n);
     raising::raise_rows(s, layout_rules::GENERATOR_DRAWN, out, 0, n, m);
-    raising::raise_numbers(s, layout_rules::LAPSED, out, size + n, n);
+    raising::raise_numbers(s, layout_rules::LAPSED, out, lapsed, n);
     raising::raise_columns(s, layout_rules::CONSUMER_DRAWN, out, 0, n, m);
     raising::raise_numbers(s, layout_rules::SUPPLIED, out, size + 3 * n + m, m);
 }

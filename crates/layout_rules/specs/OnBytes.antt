@@ -6,7 +6,7 @@ use lib.Dec.{eqb}
 use Rattle.lists.specs.Choice.{if_then_else_}
 use Rattle.codec.specs.Bytes.{encode, decode}
 use Rattle.record.specs.Words.{words, recordOf}
-use Rattle.delivery.specs.Plan.{Plan}
+use Rattle.delivery_rules.specs.Plan.{Plan}
 use Rattle.record.specs.Book.{Book}
 use Rattle.record.specs.Stored.{planOf, figures, stored}
 use Rattle.record.specs.Called.{Rule, numberOn, outputAfter}

@@ -1,5 +1,2 @@
-pub mod Order
-pub mod Members
-pub mod OrderLaws
 pub mod Keys
 pub mod Arrays

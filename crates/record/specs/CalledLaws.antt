@@ -1,6 +1,6 @@
 -- What follows from `Called` for every call. Assumes nothing.
 use Prim.Native.Nat.{ℕ, _≤_}
-use mathlib.Core.Path.{_≡_, refl, sym, ap, _∙_, subst}
+use mathlib.Core.Path.{_≡_, refl, sym, ap, _∙_}
 use mathlib.Core.Bool.{Bool, true, false}
 use mathlib.Core.List.{List}
 use native.Mathlib.Omega.{arith}
@@ -92,10 +92,6 @@ module _ (rule : Rule) (b : Book) (f : Facts b) where
   pub stored-output : (lent : List ℕ) → outputAfter rule (stored b) lent ≡ (if eqb (rule .refusal b) 0 then rule .output b else lent)
   unfolding outputAfter
   stored-output lent = rw (stored-number, figures-stored b (facts-cut b f))
-
--- the number on one record is that on the same record, had in another way
-pub number-same : (rule : Rule) {r r′ : Record} {n : ℕ} → r′ ≡ r → n ≡ numberOn rule r′ → n ≡ numberOn rule r
-number-same rule p e = e ∙ ap (numberOn rule) p
 
 -- a call always gives something
 pub called : (rule : Rule) (r : Record) (lent : List ℕ) → Called rule r lent (numberOn rule r) (recordAfter rule r) (outputAfter rule r lent)

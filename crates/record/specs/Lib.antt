@@ -8,6 +8,3 @@ pub mod StoredLaws
 pub mod CalledLaws
 pub mod WordsLaws
 pub mod Shape
-pub mod Capped
-pub mod CappedLaws
-pub mod SoundTests

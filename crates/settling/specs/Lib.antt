@@ -1,3 +1,1 @@
-pub mod Settle
-pub mod SettleLaws
 pub mod Settling

@@ -13,9 +13,9 @@ use Rattle.lists.specs.Choice.{if_then_else_}
 use Rattle.lists.specs.Tables.{zeros-at, table, getD-table, is-table, table-same}
 use Rattle.lists.specs.Pairs.{place}
 use Rattle.lists.specs.PairsLaws.{place-in}
-use Rattle.order.specs.Members.{In, Below}
-use Rattle.settling.specs.Settle.{Rest, lower, settle, given, kept, unmet}
-use Rattle.settling.specs.SettleLaws.{settle-same}
+use Rattle.order_rules.specs.Members.{In, Below}
+use Rattle.order_rules.specs.Settle.{Rest, lower, settle, given, kept, unmet}
+use Rattle.order_rules.specs.SettleLaws.{settle-same}
 use Rattle.order.specs.Arrays.{upto, Held, upto-low}
 
 -- by generator what it gave and what it has left, and what nobody gives

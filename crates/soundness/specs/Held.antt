@@ -2,7 +2,7 @@
 use Prim.Native.Nat.{ℕ}
 use mathlib.Core.Bool.{Bool}
 use mathlib.Core.List.{List}
-use Rattle.record.specs.SoundTests.{pairRead}
+use Rattle.sound_items.specs.SoundTests.{pairRead}
 use Rattle.layout_rules.specs.OnBytes.{recordIn}
 
 -- the test of place k of its pair lists

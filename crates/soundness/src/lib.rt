@@ -12,8 +12,8 @@ ghost use Rattle.codec.specs.Bytes.{decode};
 ghost use Rattle.record.specs.Words.{recordOf};
 ghost use Rattle.record.specs.Stored.{figures};
 ghost use Rattle.record.specs.Sound.{limit, sound};
-ghost use Rattle.record.specs.Capped.{RowTotal};
-ghost use Rattle.record.specs.SoundTests.{agreedTest, pairTest, generatorRead, generatorTest, consumerRead, consumerTest};
+ghost use Rattle.sound_items.specs.Capped.{RowTotal};
+ghost use Rattle.sound_items.specs.SoundTests.{agreedTest, pairTest, generatorRead, generatorTest, consumerRead, consumerTest};
 ghost use Rattle.layout_rules.specs.OnBytes.{recordIn};
 ghost use Rattle.soundness.specs.Held.{pairHeld};
 use record::ConsumerTerms;
@@ -28,7 +28,8 @@ fn row_total(s: &[u8], g: usize, n: usize) -> u64
     let mut total: u64 = 0;
     let mut c: usize = 0;
     while c < n {
-        total = total + record::capped(in_place::number_at(s, layout_rules::KW + (g * 16 + c)));
+        total = total
+            + sound_items::capped(in_place::number_at(s, layout_rules::KW + (g * 16 + c)));
         c += 1;
     }
     total
@@ -48,7 +49,7 @@ fn agreed_at(s: &[u8], g: usize, n: usize, m: usize) -> bool
     let columns = columns_within(g < n, m);
     let total = row_total(s, g, columns);
     let k = layout_rules::AGREED + g * 3;
-    record::agreed_sound(
+    sound_items::agreed_sound(
         g < n,
         in_place::number_at(s, k),
         in_place::number_at(s, k + 1),
@@ -75,7 +76,7 @@ fn pair_within(s: &[u8], k: usize) -> bool
     requires { ⌜ (length (now s) ≡ 5752) × (k < 128) ⌝ }
     ensures { λ r. ⌜ r ≡ pairHeld (now (s .entry)) true k ⌝ }
 {
-    record::pair_sound(
+    sound_items::pair_sound(
         true,
         in_place::number_at(s, layout_rules::LINK + k),
         in_place::number_at(s, layout_rules::LOSS + k),
@@ -157,7 +158,7 @@ fn generators_sound(s: &[u8], n: usize, blocks: u64) -> bool
     let mut ok = true;
     let mut g: usize = 0;
     while g < 8 {
-        ok = ok & record::generator_sound(blocks, g < n, generator_terms(s, g));
+        ok = ok & sound_items::generator_sound(blocks, g < n, generator_terms(s, g));
         g += 1;
     }
     ok
@@ -185,7 +186,7 @@ fn consumers_sound(s: &[u8], m: usize, blocks: u64) -> bool
     let mut ok = true;
     let mut c: usize = 0;
     while c < 16 {
-        ok = ok & record::consumer_sound(blocks, c < m, consumer_terms(s, c));
+        ok = ok & sound_items::consumer_sound(blocks, c < m, consumer_terms(s, c));
         c += 1;
     }
     ok
@@ -198,7 +199,7 @@ pub fn is_sound(s: &[u8]) -> bool
 {
     let terms = loading::load_terms(s);
     let counts = loading::load_counts(s);
-    if record::counts_sound(terms, counts) {
+    if sound_items::counts_sound(terms, counts) {
         let n = terms.generators as usize;
         let m = terms.consumers as usize;
         let blocks = counts.blocks;

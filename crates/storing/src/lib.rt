@@ -127,4 +127,3 @@ pub fn store(r: record::Record, s: &mut [u8])
     store_generators(r.generators, s);
     store_consumers(r.consumers, s);
 }
-

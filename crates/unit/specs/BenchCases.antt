@@ -8,18 +8,18 @@ use Rattle.lists.specs.Tests.{all, some, within}
 use Rattle.lists.specs.Pairs.{place, cell, pairs, joined}
 use Rattle.lists.specs.Refusals.{firstOf}
 use Rattle.energy.specs.Energy.{portionUp, lossOn}
-use Rattle.energy.specs.Share.{part}
-use Rattle.order.specs.Order.{span, insert, sort, only, ahead, inOrder}
-use Rattle.settling.specs.Settle.{lower, settle, given, kept, unmet}
-use Rattle.delivery.specs.Plan.{Plan, deemed, scheduled, order, suppliers}
-use Rattle.delivery.specs.Delivery.{counted, unaccounted, partOf, lossOf, delivered, atExit}
-use Rattle.settlement.specs.Settlement.{setOff, afterSetOff, underdrawn, shortfall, remainder, blockLists, blockOutput}
+use Rattle.sharing.specs.Share.{part}
+use Rattle.order_rules.specs.Order.{span, insert, sort, only, ahead, inOrder}
+use Rattle.order_rules.specs.Settle.{lower, settle, given, kept, unmet}
+use Rattle.delivery_rules.specs.Plan.{Plan, deemed, scheduled, order, suppliers}
+use Rattle.delivery_rules.specs.Delivery.{counted, unaccounted, partOf, lossOf, delivered, atExit}
+use Rattle.settlement_rules.specs.Settlement.{setOff, afterSetOff, underdrawn, shortfall, remainder, blockLists, blockOutput}
 use Rattle.record.specs.Book.{Book, noInjection, noConsumption}
 use Rattle.agreement_rules.specs.Opening.{Opening, kindOf, installedOf, contractedOf, linkOf, rateOfLoss, openingRefusal, opened}
 use Rattle.agreement_rules.specs.Schedule.{newKw, newRank, scheduleRefusal, afterSchedule, scheduleRule}
 use Rattle.block_rules.specs.Block.{generatorAfterBlock, consumerAfterBlock, afterBlock, blockLength, entryOf, exitOf, blockRefusal, blockRule}
-use Rattle.bank.specs.Drawing.{stockAt, drawnAt, missingAt}
-use Rattle.bank.specs.Closing.{takenUp, charge, credited, banks, drawn, supplied, lapses, goneAfter, bankBeforeLapse, lapsed, bankAfter, generatorAfterClosing, consumerAfterClosing, afterClosing, closingLists, closingOutput, closingLength, closingRefusal, closingRule}
+use Rattle.closing_rules.specs.Drawing.{stockAt, drawnAt, missingAt}
+use Rattle.closing_rules.specs.Closing.{takenUp, charge, credited, banks, drawn, supplied, lapses, goneAfter, bankBeforeLapse, lapsed, bankAfter, generatorAfterClosing, consumerAfterClosing, afterClosing, closingLists, closingOutput, closingLength, closingRefusal, closingRule}
 use Rattle.unit.specs.AgreementA.{agreementA, scheduleA}
 use Rattle.unit.specs.Calls.{Call, schedule, block, closing, ruleOf, next, bookAfter, Entry, bookAnswers}
 

@@ -8,7 +8,7 @@ use Rattle.record.specs.Book.{Book}
 use Rattle.record.specs.Called.{Rule}
 use Rattle.agreement_rules.specs.Schedule.{scheduleRule}
 use Rattle.block_rules.specs.Block.{blockRule}
-use Rattle.bank.specs.Closing.{closingRule}
+use Rattle.closing_rules.specs.Closing.{closingRule}
 
 -- What the book is fed of a call: its inputs and the length of its output, nothing that the unit's record or outputs hold.
 pub data Call : Type 0 where

@@ -13,7 +13,7 @@ use Rattle.record.specs.Stored.{figures, stored}
 use Rattle.record.specs.Sound.{sound}
 use Rattle.record.specs.declared.Record.{Record}
 use Rattle.agreement_rules.specs.Opening.{Opening, linkOf, opened, Opened, Permitted}
-use Rattle.bank.specs.Closing.{bankBeforeLapse, supplied}
+use Rattle.closing_rules.specs.Closing.{bankBeforeLapse, supplied}
 use Rattle.unit.specs.Calls.{Call, schedule, block, closing, ruleOf, next, bookAfter, Entry, bookAnswers}
 use Rattle.unit.specs.Trace.{Ask, callOf, lentOf, Given, Trace, lastRecord}
 

@@ -12,7 +12,7 @@ use Rattle.lists.specs.Choice.{if_then_else_}
 use Rattle.lists.specs.Sums.{sum, sum-cong, sum-zero}
 use Rattle.lists.specs.Pairs.{place}
 use Rattle.lists.specs.PairsLaws.{place-in}
-use Rattle.delivery.specs.Plan.{Plan}
+use Rattle.delivery_rules.specs.Plan.{Plan}
 use Rattle.record.specs.Book.{Book, noInjection, noConsumption}
 use Rattle.record.specs.Stored.{generatorAt, consumerAt, planOf, figures, stored, zeros}
 use Rattle.record.specs.Sound.{sound}
@@ -28,9 +28,9 @@ use Rattle.agreement_rules.specs.Schedule.{afterSchedule, scheduleRule}
 use Rattle.agreement_rules.specs.ScheduleLaws.{schedule-keeps}
 use Rattle.block_rules.specs.Block.{afterBlock, entryOf, exitOf, blockRule}
 use Rattle.block_rules.specs.BlockLaws.{block-keeps, block-setoff, block-drawn}
-use Rattle.bank.specs.Closing.{afterClosing, closingOutput, closingLength, closingRule, bankBeforeLapse, supplied}
-use Rattle.bank.specs.ClosingLaws.{closing-keeps, closing-setoff, closing-drawn, before-lapse-is, none-idle}
-use Rattle.bank.specs.ClosingOutput.{closing-length, lapsed-at, bank-at, supplied-at}
+use Rattle.closing_rules.specs.Closing.{afterClosing, closingOutput, closingLength, closingRule, bankBeforeLapse, supplied}
+use Rattle.closing_rules.specs.ClosingLaws.{closing-keeps, closing-setoff, closing-drawn, before-lapse-is, none-idle}
+use Rattle.closing_rules.specs.ClosingOutput.{closing-length, lapsed-at, bank-at, supplied-at}
 use Rattle.unit.specs.Calls.{Call, schedule, block, closing, ruleOf, next, bookAfter, Entry, bookAnswers}
 use Rattle.unit.specs.Trace.{Ask, askSchedule, askBlock, askClosing, callOf, lentOf, Given, Done, Trace, trace-none, trace-one, lastRecord}
 use Rattle.unit.specs.Demand3.{at, Match, Matches, match-none, match-one, NoIdleBank, NotIdleIn, NoIdleBanks, idle-none, idle-one, mostFigure, Demand3, Claim}

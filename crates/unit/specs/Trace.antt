@@ -7,7 +7,7 @@ use Rattle.record.specs.declared.Record.{Record}
 use Rattle.record.specs.declared.Answer.{Answer}
 use Rattle.agreement_rules.specs.Schedule.{Scheduled}
 use Rattle.block_rules.specs.Block.{Blocked}
-use Rattle.bank.specs.Closing.{Closed}
+use Rattle.closing_rules.specs.Closing.{Closed}
 use Rattle.unit.specs.Calls.{Call, schedule, block, closing}
 
 -- the arguments of a call, with the output slice as it is lent

@@ -27,8 +27,8 @@ use Rattle.agreement_rules.specs.OpeningLaws.{permitted-accepted}
 use Rattle.agreement_rules.specs.Schedule.{scheduleRule, Scheduled}
 use Rattle.block_rules.specs.Block.{blockRule}
 use Rattle.block_rules.specs.Accepted.{block-output-moderate}
-use Rattle.bank.specs.Closing.{closingRule}
-use Rattle.closing_rules.specs.RoomLaws.{closing-output-moderate}
+use Rattle.closing_rules.specs.Closing.{closingRule}
+use Rattle.closing_steps.specs.RoomLaws.{closing-output-moderate}
 use Rattle.unit.specs.Calls.{Call, schedule, block, closing, ruleOf, next, bookAfter, bookAnswers}
 use Rattle.unit.specs.Trace.{Ask, askSchedule, askBlock, askClosing, callOf, Given, Done, Trace, trace-none, trace-one, lastRecord}
 use Rattle.unit.specs.Demand3Proof.{Kept, next-kept, opened-kept, demand-3, given, every-opening}

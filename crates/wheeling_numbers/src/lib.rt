@@ -3,7 +3,7 @@
 ghost use mathlib.Core.Path.{_≡_};
 ghost use lib.ListN.{length};
 ghost use Rattle.block_rules.specs.Block.{Blocked};
-ghost use Rattle.bank.specs.Closing.{Closed};
+ghost use Rattle.closing_rules.specs.Closing.{Closed};
 ghost use Rattle.layout_rules.specs.OnBytes.{recordIn};
 ghost use Rattle.wheeling_rules.specs.Wheeling.{Done};
 ghost use Rattle.wheeling_rules.specs.Reading.{Fits};

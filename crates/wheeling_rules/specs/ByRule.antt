@@ -15,7 +15,7 @@ use Rattle.record.specs.CalledLaws.{record-accepted, output-accepted}
 use Rattle.record.specs.declared.Answer.{Answer}
 use Rattle.agreement_rules.specs.Schedule.{scheduleRule}
 use Rattle.block_rules.specs.Block.{blockRule}
-use Rattle.bank.specs.Closing.{closingRule}
+use Rattle.closing_rules.specs.Closing.{closingRule}
 use Rattle.layout_rules.specs.OnBytes.{recordIn, bytesAfter}
 use Rattle.wheeling_rules.specs.Wheeling.{recordBytes, numbersIn, Stored, ByteScheduled, ByteBlocked, ByteClosed}
 use Rattle.wheeling_rules.specs.ReadingLaws.{no-bytes}

@@ -14,7 +14,7 @@ use Rattle.record.specs.declared.Answer.{Answer}
 use Rattle.agreement_rules.specs.Opening.{Opening, Opened}
 use Rattle.agreement_rules.specs.Schedule.{Scheduled}
 use Rattle.block_rules.specs.Block.{Blocked}
-use Rattle.bank.specs.Closing.{Closed}
+use Rattle.closing_rules.specs.Closing.{Closed}
 
 -- 719 numbers of 8 bytes
 abbrev pub recordBytes : ℕ

@@ -26,8 +26,8 @@ use Rattle.agreement_rules.specs.Schedule.{scheduleRule, Scheduled}
 use Rattle.agreement_rules.specs.ScheduleLaws.{schedule-sized}
 use Rattle.block_rules.specs.Block.{blockLength, blockRefusal, blockRule, Blocked}
 use Rattle.block_rules.specs.BlockLaws.{block-sized}
-use Rattle.bank.specs.Closing.{closingLength, closingRefusal, closingRule, Closed}
-use Rattle.bank.specs.ClosingLaws.{closing-sized}
+use Rattle.closing_rules.specs.Closing.{closingLength, closingRefusal, closingRule, Closed}
+use Rattle.closing_rules.specs.ClosingLaws.{closing-sized}
 use Rattle.layout_rules.specs.OnBytes.{recordIn, bytesAfter, CalledOn}
 use Rattle.wheeling_rules.specs.Wheeling.{recordBytes, numbersIn, Stored, Done, OnBytes, openingIn, ByteOpened, ByteScheduled, ByteBlocked, ByteClosed}
 use Rattle.wheeling_rules.specs.ReadingLaws.{no-bytes}

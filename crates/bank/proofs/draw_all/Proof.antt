@@ -5,7 +5,7 @@ use native.Mathlib.Omega.{arith}
 use borrow.Author.Needs.{needs}
 use Rattle.lists.specs.PairsLaws.{place-in}
 use Rattle.lists.specs.Pairs.{place}
-use Rattle.delivery.specs.Plan.{order, suppliers}
+use Rattle.delivery_rules.specs.Plan.{order, suppliers}
 use Rattle.bank.specs.Arrays.{linkPlan}
 use Rattle.bank.specs.DrawingLaws.{Drawn, drawing-start, drawing-step, drawing-done}
 use Rattle.bank.proofs.draw_all.Statement.{statement}

@@ -6,9 +6,9 @@ use native.Mathlib.Omega.{arith}
 use borrow.Author.Needs.{needs}
 use lib.ListN.{getD}
 use Rattle.lists.specs.PairsLaws.{place-in}
-use Rattle.delivery.specs.Plan.{Plan}
-use Rattle.delivery.specs.Delivery.{counted, unaccounted}
-use Rattle.delivery.specs.DeliveryLaws.{counted-le}
+use Rattle.delivery_rules.specs.Plan.{Plan}
+use Rattle.delivery_rules.specs.Delivery.{counted, unaccounted}
+use Rattle.delivery_rules.specs.DeliveryLaws.{counted-le}
 use Rattle.layout_rules.specs.OnBytes.{planIn}
 use Rattle.block_delivery.specs.Lent.{entriesIn}
 use Rattle.block_delivery.specs.LentLaws.{kind-at}

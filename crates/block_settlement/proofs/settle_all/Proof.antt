@@ -5,7 +5,7 @@ use native.Mathlib.Omega.{arith}
 use borrow.Author.Needs.{needs}
 use lib.ListN.{length}
 use Rattle.lists.specs.PairsLaws.{place-in}
-use Rattle.delivery.specs.DeliveredIn.{DeliveredIn}
+use Rattle.delivery_rules.specs.DeliveredIn.{DeliveredIn}
 use Rattle.layout_rules.specs.OnBytes.{planIn}
 use Rattle.block_settlement.specs.Bytes.{exitsIn}
 use Rattle.block_settlement.specs.SettledTo.{SettledTo}

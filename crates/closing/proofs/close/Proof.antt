@@ -1,31 +1,31 @@
 -- `closing::close` meets its contract: the call on the record's bytes is the call on the record.
-use borrow.Author.Needs.{needs}
+use mathlib.Core.Path.{refl, sym, _∙_}
 use Rattle.layout_rules.specs.OnBytes.{recordIn}
 use Rattle.layout_rules.specs.OnBytesLaws.{on-struct}
-use Rattle.bank.specs.ClosingLaws.{closing-keeps}
+use Rattle.closing_rules.specs.ClosingLaws.{closing-keeps}
 use Rattle.closing.proofs.close.Statement.{statement}
 use Rattle.closing.proofs.close.Tie as tie
 
 slice-aggregate-store : tie.Need-slice-aggregate-store
-slice-aggregate-store c = search needs
+slice-aggregate-store c = refl
 
 store-requires : tie.Need-store-requires
-store-requires c κs = search needs
+store-requires c κs = refl
 
 slice-aggregate-close-on : tie.Need-slice-aggregate-close-on
-slice-aggregate-close-on c = search needs
+slice-aggregate-close-on c = sym (c .before .before .store .kept .1 .0)
 
 close-on-requires : tie.Need-close-on-requires
-close-on-requires c κs = search needs
+close-on-requires c κs = c .before .before .before .store .kept .1 .0
 
 slice-aggregate-load : tie.Need-slice-aggregate-load
-slice-aggregate-load c = search needs
+slice-aggregate-load c = sym (c .before .before .before .before .close-on .kept .0 ∙ c .before .before .before .before .before .before .before .before .store .kept .1 .0)
 
 load-requires : tie.Need-load-requires
-load-requires c κs = search needs
+load-requires c κs = c .before .before .before .before .close-on .kept .0 ∙ c .before .before .before .before .before .before .before .before .store .kept .1 .0
 
 same-length : tie.Need-same-length
-same-length c = search needs
+same-length c = c .before .before .before .before .before .close-on .kept .1 .0
 
 returns : tie.Need-returns
 unfolding recordIn

@@ -4,7 +4,7 @@ use native.Mathlib.Omega.{arith}
 use borrow.Author.Needs.{needs}
 use Rattle.codec.specs.Bytes.{decode}
 use Rattle.record.specs.Words.{recordOf}
-use Rattle.closing_rules.specs.Accepted.{StepsRead, credit-ready, draw-ready, output-room, lists-are}
+use Rattle.closing_steps.specs.Accepted.{StepsRead, credit-ready, draw-ready, output-room, lists-are}
 use Rattle.closing.specs.Ready.{steps-read, gone-low, ends-so}
 use Rattle.closing.proofs.close_lists.Statement.{statement}
 use Rattle.closing.proofs.close_lists.Tie as tie

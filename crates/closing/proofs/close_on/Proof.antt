@@ -6,7 +6,7 @@ use borrow.Author.Needs.{needs}
 use Rattle.codec.specs.Bytes.{decode}
 use Rattle.record.specs.Called.{numberOn}
 use Rattle.record.specs.Words.{recordOf}
-use Rattle.bank.specs.Closing.{closingRule}
+use Rattle.closing_rules.specs.Closing.{closingRule}
 use Rattle.closing.specs.Ready.{listed, closing-accepted, closing-refused}
 use Rattle.closing.proofs.close_on.Statement.{statement}
 use Rattle.closing.proofs.close_on.Tie as tie

@@ -4,7 +4,7 @@ use mathlib.Core.Path.{_≡_, refl, sym, _∙_}
 use native.Mathlib.Nat.{zero-add}
 use native.Mathlib.Omega.{arith}
 use Rattle.arrays.specs.Written.{written-none, written-put, written-all}
-use Rattle.closing_rules.specs.Output.{sixLists}
+use Rattle.closing_steps.specs.Output.{sixLists}
 use borrow.Author.Needs.{needs}
 use Rattle.closing.proofs.write_lists.Statement.{statement}
 use Rattle.closing.proofs.write_lists.Tie as tie
@@ -25,25 +25,25 @@ add-last : tie.Need-add-last
 add-last c = search needs
 
 put-pairs-requires : tie.Need-put-pairs-requires
-put-pairs-requires c κs = search needs
+put-pairs-requires c κs = let room = c .before .before .pre in (omega (arith, room .size), (room .rows, room .columns))
 
 put8-requires : tie.Need-put8-requires
-put8-requires c κs = search needs
+put8-requires c κs = let room = c .before .before .before .before .before .before .before .pre in (omega (arith, room .size, c .before .before .before .before .put-pairs .kept .0), room .rows)
 
 put8-requires-2 : tie.Need-put8-requires-2
-put8-requires-2 c κs = search needs
+put8-requires-2 c κs = let room = c .before .before .before .before .before .before .before .before .before .before .before .before .pre in (omega (arith, room .size, c .before .before .before .before .put8 .kept .0 ∙ c .before .before .before .before .before .before .before .before .before .put-pairs .kept .0), room .rows)
 
 put8-requires-3 : tie.Need-put8-requires-3
-put8-requires-3 c κs = search needs
+put8-requires-3 c κs = let room = c .before .before .before .before .before .before .before .before .before .before .before .before .before .before .before .before .before .pre in (omega (arith, room .size, c .before .before .before .before .put82 .kept .0 ∙ c .before .before .before .before .before .before .before .before .before .put8 .kept .0 ∙ c .before .before .before .before .before .before .before .before .before .before .before .before .before .before .put-pairs .kept .0), room .rows)
 
 put16-requires : tie.Need-put16-requires
-put16-requires c κs = search needs
+put16-requires c κs = let room = c .before .before .before .before .before .before .before .before .before .before .before .before .before .before .before .before .before .before .before .before .before .before .pre in (omega (arith, room .size, c .before .before .before .before .put83 .kept .0 ∙ c .before .before .before .before .before .before .before .before .before .put82 .kept .0 ∙ c .before .before .before .before .before .before .before .before .before .before .before .before .before .before .put8 .kept .0 ∙ c .before .before .before .before .before .before .before .before .before .before .before .before .before .before .before .before .before .before .before .put-pairs .kept .0), room .columns)
 
 put16-requires-2 : tie.Need-put16-requires-2
-put16-requires-2 c κs = search needs
+put16-requires-2 c κs = let room = c .before .before .before .before .before .before .before .before .before .before .before .before .before .before .before .before .before .before .before .before .before .before .before .before .before .before .before .pre in (omega (arith, room .size, c .before .before .before .before .put16 .kept .0 ∙ c .before .before .before .before .before .before .before .before .before .put83 .kept .0 ∙ c .before .before .before .before .before .before .before .before .before .before .before .before .before .before .put82 .kept .0 ∙ c .before .before .before .before .before .before .before .before .before .before .before .before .before .before .before .before .before .before .before .put8 .kept .0 ∙ c .before .before .before .before .before .before .before .before .before .before .before .before .before .before .before .before .before .before .before .before .before .before .before .before .put-pairs .kept .0), room .columns)
 
 same-length : tie.Need-same-length
-same-length c = search needs
+same-length c = c .before .before .put162 .kept .0 ∙ c .before .before .before .before .before .before .before .put16 .kept .0 ∙ c .before .before .before .before .before .before .before .before .before .before .before .before .put83 .kept .0 ∙ c .before .before .before .before .before .before .before .before .before .before .before .before .before .before .before .before .before .put82 .kept .0 ∙ c .before .before .before .before .before .before .before .before .before .before .before .before .before .before .before .before .before .before .before .before .before .before .put8 .kept .0 ∙ c .before .before .before .before .before .before .before .before .before .before .before .before .before .before .before .before .before .before .before .before .before .before .before .before .before .before .before .put-pairs .kept .0
 
 one-by-one : (k n m : ℕ) → k + 3 * n + 2 * m ≡ k + n + n + n + m + m
 one-by-one k n m = omega arith

@@ -2,7 +2,7 @@
 use mathlib.Core.Path.{_∙_}
 use native.Mathlib.Nat.{mul-le-mul}
 use native.Mathlib.Omega.{arith}
-use Rattle.closing_rules.specs.Refusals.{ownRefusal}
+use Rattle.closing_steps.specs.Refusals.{ownRefusal}
 use borrow.Author.Needs.{needs}
 use Rattle.closing_refusal.proofs.own_refusal.Statement.{statement}
 use Rattle.closing_refusal.proofs.own_refusal.Tie as tie

@@ -9,6 +9,9 @@ use Rattle.closing_totals.proofs.raise_totals.Tie as tie
 mul-size : tie.Need-mul-size
 mul-size c = search needs
 
+add-lapsed : tie.Need-add-lapsed
+add-lapsed c = search needs
+
 raise-numbers-requires : tie.Need-raise-numbers-requires
 raise-numbers-requires c κs = let start = c .before .before .before in
     let lists = start .pre .1 in
@@ -21,9 +24,6 @@ raise-rows-requires c κs = let start = c .before .before .before .before .befor
     let few = lists .generators-few in
     let two = next-list 8 8 few (omega arith) (start .pre .0) (c .before .before .before .raise-numbers .ensures) in
     (fewer _ _ few (omega arith) two, (omega (arith, lists .size), (lists .consumers-few, lists .moderate)))
-
-add-raise-numbers : tie.Need-add-raise-numbers
-add-raise-numbers c = search needs
 
 raise-numbers-requires-2 : tie.Need-raise-numbers-requires-2
 raise-numbers-requires-2 c κs = let start = c .before .before .before .before .before .before .before .before .before .before .before in
@@ -45,11 +45,11 @@ raise-columns-requires c κs = let start = c .before .before .before .before .be
 mul-raise-numbers : tie.Need-mul-raise-numbers
 mul-raise-numbers c = search needs
 
+add-raise-numbers : tie.Need-add-raise-numbers
+add-raise-numbers c = search needs
+
 add-raise-numbers-2 : tie.Need-add-raise-numbers-2
 add-raise-numbers-2 c = search needs
-
-add-raise-numbers-3 : tie.Need-add-raise-numbers-3
-add-raise-numbers-3 c = search needs
 
 raise-numbers-requires-3 : tie.Need-raise-numbers-requires-3
 raise-numbers-requires-3 c κs = let start = c .before .before .before .before .before .before .before .before .before .before .before .before .before .before .before .before .before .before .before in
@@ -73,14 +73,14 @@ raise-totals-spec =
     tie.close
     (tie.spec
     mul-size
+    add-lapsed
     raise-numbers-requires
     raise-rows-requires
-    add-raise-numbers
     raise-numbers-requires-2
     raise-columns-requires
     mul-raise-numbers
+    add-raise-numbers
     add-raise-numbers-2
-    add-raise-numbers-3
     raise-numbers-requires-3
     same-length
     returns)

@@ -4,7 +4,7 @@ use mathlib.Core.Bool.{false}
 use lib.Dec.{eqb}
 use borrow.Author.Needs.{needs}
 use Rattle.lists.specs.Tests.{Testing, test-start, test-step, test-done}
-use Rattle.record.specs.SoundTests.{beyond-next}
+use Rattle.sound_items.specs.SoundTests.{beyond-next}
 use Rattle.soundness.specs.Held.{pairHeld}
 use Rattle.soundness.specs.HeldLaws.{pair-held}
 use Rattle.soundness.proofs.beyond_sound.Statement.{statement}

@@ -1,0 +1,33 @@
+-- Document 01, "Block": rules 1 to 4, what the entry reading of one generator delivers. Assumes nothing.
+use Prim.Native.Nat.{ℕ, _-_, min}
+use mathlib.Core.Bool.{Bool}
+use lib.Dec.{eqb}
+use Rattle.lists.specs.Choice.{if_then_else_}
+use Rattle.energy.specs.Energy.{quarterHour, lossOn}
+use Rattle.sharing.specs.Share.{part}
+use Rattle.delivery_rules.specs.Plan.{Plan, deemed, scheduled}
+
+-- for generator g and its entry reading e
+module _ (p : Plan) (g e : ℕ) where
+  -- Rule 1: document 01's K, what counts of the reading.
+  unfoldable pub counted : ℕ
+  counted = if eqb (scheduled p g) 0 then 0 else (if deemed p g then e else min e (quarterHour (scheduled p g)))
+
+  -- What does not count (10.4).
+  unfoldable pub unaccounted : ℕ
+  unaccounted = e - counted
+
+  -- Rule 2: the part of consumer c.
+  unfoldable pub partOf : ℕ → ℕ
+  partOf c = part (p .C) (p .kw g) counted c
+
+  -- Rule 3: the loss on the part, and document 01's d, what is delivered.
+  unfoldable pub lossOf : ℕ → ℕ
+  lossOf c = lossOn (partOf c) (p .loss g c)
+
+  unfoldable pub delivered : ℕ → ℕ
+  delivered c = partOf c - lossOf c
+
+  -- Rule 4: document 01's q, what is scheduled at exit.
+  unfoldable pub atExit : ℕ → ℕ
+  atExit c = if deemed p g then delivered c else quarterHour (p .kw g c) - lossOn (quarterHour (p .kw g c)) (p .loss g c)

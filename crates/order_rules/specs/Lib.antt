@@ -1,0 +1,5 @@
+pub mod Order
+pub mod Members
+pub mod OrderLaws
+pub mod Settle
+pub mod SettleLaws

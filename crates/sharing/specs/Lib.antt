@@ -1,0 +1,3 @@
+pub mod Share
+pub mod ShareLaws
+pub mod Requirements

@@ -1,0 +1,23 @@
+-- `sound_items::counts_sound` meets its contract: it is the definition of `countsSound`, test by test.
+use borrow.Author.Needs.{needs}
+use Rattle.sound_items.specs.SoundTests.{countsTest}
+use Rattle.record.specs.Sound.{countsSound}
+use Rattle.sound_items.proofs.counts_sound.Statement.{statement}
+use Rattle.sound_items.proofs.counts_sound.Tie as tie
+
+in-range-requires : tie.Need-in-range-requires
+in-range-requires c κs = search needs
+
+in-range-requires-2 : tie.Need-in-range-requires-2
+in-range-requires-2 c κs = search needs
+
+in-range-requires-3 : tie.Need-in-range-requires-3
+in-range-requires-3 c κs = search needs
+
+returns : tie.Need-returns
+unfolding countsTest countsSound
+returns c = rw (c .before .before .before .before .before .before .before .before .in-range .ensures, c .before .before .before .before .before .before .before .in-range2 .ensures, c .before .before .before .before .before .in-range3 .ensures)
+
+pub counts-sound-spec : {M : Type 1} → statement M
+counts-sound-spec =
+    tie.close (tie.spec in-range-requires in-range-requires-2 in-range-requires-3 returns)
