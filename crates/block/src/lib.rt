@@ -2,10 +2,29 @@
 // A function with a `requires` is called by this repository's crates only, and they meet it.
 ghost use mathlib.Core.Path.{_≡_};
 ghost use lib.ListN.{length};
+ghost use Rattle.codec.specs.Bytes.{decode};
+ghost use Rattle.record.specs.Called.{numberOn};
+ghost use Rattle.record.specs.Words.{recordOf};
 ghost use Rattle.layout_rules.specs.OnBytes.{CalledOn};
 ghost use Rattle.block_rules.specs.Block.{blockRule, Blocked};
 use record::Answer;
 use record::Record;
+
+// The number of a block on the record that the bytes hold.
+fn refusal_on(s: &[u8], entry: &[u32], exit: &[u32], size: usize) -> u32
+    requires { ⌜ length (now s) ≡ 5752 ⌝ }
+    ensures { λ x. ⌜ x ≡ numberOn (blockRule (now (entry .entry)) (now (exit .entry)) size) (recordOf (decode 8 719 (now (s .entry)))) ⌝ }
+{
+    if soundness::is_sound(s) {
+        let terms = loading::load_terms(s);
+        let counts = loading::load_counts(s);
+        let n = terms.generators as usize;
+        let m = terms.consumers as usize;
+        block_refusal::refusal(n, m, counts, entry, exit, size)
+    } else {
+        1
+    }
+}
 
 // One block on the record that the bytes hold; called by this repository's crates only, which meet what it requires. The lists are made in
 // the slice of the output, and the totals are raised in the bytes: nothing is copied on the way.
@@ -13,7 +32,7 @@ pub fn block_on(s: &mut [u8], entry: &[u32], exit: &[u32], out: &mut [u64]) -> u
     requires { ⌜ length (now s) ≡ 5752 ⌝ }
     ensures { λ r. ⌜ CalledOn (blockRule (now (entry .entry)) (now (exit .entry)) (length (now (out .entry)))) (now (s .entry)) (now (out .entry)) r (now (s .exit)) (now (out .exit)) ⌝ }
 {
-    let number = block_refusal::refusal_on(s, entry, exit, out.len());
+    let number = refusal_on(s, entry, exit, out.len());
     if number == 0 {
         let n = in_place::number_at(s, layout_rules::GENERATOR_COUNT) as usize;
         let m = in_place::number_at(s, layout_rules::CONSUMER_COUNT) as usize;

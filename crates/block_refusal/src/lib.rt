@@ -1,12 +1,8 @@
-// The refusals of the call `block`.
+// The refusals of the call `block` on a sound record.
 // Called by this repository's crates only: what a function requires, its callers meet.
 ghost use mathlib.Core.Path.{_≡_};
 ghost use Prim.Native.Nat.{_≤_};
 ghost use lib.ListN.{length};
-ghost use Rattle.codec.specs.Bytes.{decode};
-ghost use Rattle.record.specs.Called.{numberOn};
-ghost use Rattle.record.specs.Words.{recordOf};
-ghost use Rattle.block_rules.specs.Block.{blockRule};
 ghost use Rattle.block_rules.specs.Refusals.{overLimit, ownRefusal};
 use record::Counts;
 
@@ -25,7 +21,7 @@ fn any_over(readings: &[u32]) -> bool
 
 // The number of a block on a sound record with n generators and m consumers: 10 to 12 are tested where the lists have
 // the length that is read.
-fn own_refusal(n: usize, m: usize, counts: Counts, entry: &[u32], exit: &[u32], size: usize) -> u32
+pub fn refusal(n: usize, m: usize, counts: Counts, entry: &[u32], exit: &[u32], size: usize) -> u32
     requires { ⌜ (n ≤ 8) × (m ≤ 16) ⌝ }
     ensures { λ r. ⌜ r ≡ ownRefusal n m (counts .month) (counts .blocks) (now (entry .entry)) (now (exit .entry)) size ⌝ }
 {
@@ -36,21 +32,5 @@ fn own_refusal(n: usize, m: usize, counts: Counts, entry: &[u32], exit: &[u32], 
         lists::first(over, 10, month_full)
     } else {
         2
-    }
-}
-
-// The number of a block on the record that the bytes hold.
-pub fn refusal_on(s: &[u8], entry: &[u32], exit: &[u32], size: usize) -> u32
-    requires { ⌜ length (now s) ≡ 5752 ⌝ }
-    ensures { λ x. ⌜ x ≡ numberOn (blockRule (now (entry .entry)) (now (exit .entry)) size) (recordOf (decode 8 719 (now (s .entry)))) ⌝ }
-{
-    if soundness::is_sound(s) {
-        let terms = loading::load_terms(s);
-        let counts = loading::load_counts(s);
-        let n = terms.generators as usize;
-        let m = terms.consumers as usize;
-        own_refusal(n, m, counts, entry, exit, size)
-    } else {
-        1
     }
 }

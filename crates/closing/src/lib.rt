@@ -40,6 +40,22 @@ fn write_lists(
     arrays::put16(out, last, &supplied, m);
 }
 
+// The number of a closing on the record that the bytes hold.
+fn refusal_on(s: &[u8], size: usize) -> u32
+    requires { ⌜ length (now s) ≡ 5752 ⌝ }
+    ensures { λ x. ⌜ x ≡ numberOn (closingRule size) (recordOf (decode 8 719 (now (s .entry)))) ⌝ }
+{
+    if soundness::is_sound(s) {
+        let terms = loading::load_terms(s);
+        let counts = loading::load_counts(s);
+        let n = terms.generators as usize;
+        let m = terms.consumers as usize;
+        closing_refusal::refusal(n, m, counts.month, size)
+    } else {
+        1
+    }
+}
+
 // Steps 1 to 4 on what the record holds for them, and their lists into the slice.
 fn close_lists(s: &[u8], out: &mut [u64])
     requires { ⌜ (length (now s) ≡ 5752) × (numberOn (closingRule (length (now out))) (recordOf (decode 8 719 (now s))) ≡ 0) ⌝ }
@@ -84,7 +100,7 @@ pub fn close_on(s: &mut [u8], out: &mut [u64]) -> u32
     requires { ⌜ length (now s) ≡ 5752 ⌝ }
     ensures { λ r. ⌜ CalledOn (closingRule (length (now (out .entry)))) (now (s .entry)) (now (out .entry)) r (now (s .exit)) (now (out .exit)) ⌝ }
 {
-    let number = closing_refusal::refusal_on(s, out.len());
+    let number = refusal_on(s, out.len());
     if number == 0 {
         close_lists(s, out);
         closing_totals::enter(s, out);

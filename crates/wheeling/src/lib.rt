@@ -1,7 +1,36 @@
 // The four calls of a C host. Every list is bytes, low byte first: 4 a number in the inputs, 8 in the outputs and in the record.
-ghost use Rattle.wheeling_rules.specs.Wheeling.{openingIn, ByteOpened, ByteScheduled, ByteBlocked, ByteClosed};
+ghost use mathlib.Core.Path.{_≡_};
+ghost use lib.ListN.{length};
+ghost use Rattle.layout_rules.specs.OnBytes.{recordIn};
+ghost use Rattle.block_rules.specs.Block.{Blocked};
+ghost use Rattle.closing_rules.specs.Closing.{Closed};
+ghost use Rattle.wheeling_rules.specs.Reading.{Fits};
+ghost use Rattle.wheeling_rules.specs.Wheeling.{Done, openingIn, ByteOpened, ByteScheduled, ByteBlocked, ByteClosed};
 
 const RECORD_BYTES: usize = 5752;
+
+// A block whose lists are read; `out` is room for its output as numbers.
+fn block_on_numbers(
+    bytes: &mut [u8],
+    entry: &[u32],
+    exit: &[u32],
+    out: &mut [u64],
+    output: &mut [u8],
+) -> u32
+    requires { ⌜ (length (now bytes) ≡ 5752) × Fits 537 (length (now out)) (now output) ⌝ }
+    ensures { λ r. ⌜ Done (Blocked (recordIn (now (bytes .entry))) (now (entry .entry)) (now (exit .entry)) (now (out .entry))) (now (bytes .entry)) (now (output .entry)) r (now (bytes .exit)) (now (output .exit)) ⌝ }
+{
+    let number = block::block_on(bytes, entry, exit, out);
+    host::give(number, out, output)
+}
+
+fn close_on_numbers(bytes: &mut [u8], out: &mut [u64], output: &mut [u8]) -> u32
+    requires { ⌜ (length (now bytes) ≡ 5752) × Fits 185 (length (now out)) (now output) ⌝ }
+    ensures { λ r. ⌜ Done (Closed (recordIn (now (bytes .entry))) (now (out .entry))) (now (bytes .entry)) (now (output .entry)) r (now (bytes .exit)) (now (output .exit)) ⌝ }
+{
+    let number = closing::close_on(bytes, out);
+    host::give(number, out, output)
+}
 
 #[no_mangle]
 pub extern "C" fn wheeling_open(
@@ -68,13 +97,7 @@ pub extern "C" fn wheeling_block(
         let m = host::read_input(exit_list, &mut exit);
         let mut out = [0u64; 537];
         let k = host::room(output, 537);
-        return wheeling_numbers::block_on_numbers(
-            record,
-            &entry[0..n],
-            &exit[0..m],
-            &mut out[0..k],
-            output,
-        );
+        return block_on_numbers(record, &entry[0..n], &exit[0..m], &mut out[0..k], output);
     }
     1
 }
@@ -86,7 +109,7 @@ pub extern "C" fn wheeling_close(record: &mut [u8], output: &mut [u8]) -> u32
     if record.len() == RECORD_BYTES {
         let mut out = [0u64; 185];
         let k = host::room(output, 185);
-        return wheeling_numbers::close_on_numbers(record, &mut out[0..k], output);
+        return close_on_numbers(record, &mut out[0..k], output);
     }
     1
 }

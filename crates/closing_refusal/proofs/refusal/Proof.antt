@@ -1,11 +1,11 @@
--- `closing_refusal::own_refusal` meets its contract: the tests in their order give the number of the first that applies.
+-- `closing_refusal::refusal` meets its contract: the tests in their order give the number of the first that applies.
 use mathlib.Core.Path.{_∙_}
 use native.Mathlib.Nat.{mul-le-mul}
 use native.Mathlib.Omega.{arith}
 use Rattle.closing_steps.specs.Refusals.{ownRefusal}
 use borrow.Author.Needs.{needs}
-use Rattle.closing_refusal.proofs.own_refusal.Statement.{statement}
-use Rattle.closing_refusal.proofs.own_refusal.Tie as tie
+use Rattle.closing_refusal.proofs.refusal.Statement.{statement}
+use Rattle.closing_refusal.proofs.refusal.Tie as tie
 
 mul-sized : tie.Need-mul-sized
 mul-sized c = omega (arith, mul-le-mul (c .pre .0) (c .pre .1))
@@ -32,8 +32,8 @@ returns : tie.Need-returns
 unfolding ownRefusal
 returns c = c .first2 .ensures ∙ rw (c .before .first .ensures)
 
-pub own-refusal-spec : {M : Type 1} → statement M
-own-refusal-spec =
+pub refusal-spec : {M : Type 1} → statement M
+refusal-spec =
     tie.close
     (tie.spec
     mul-sized

@@ -1,10 +1,10 @@
--- `wheeling_numbers::close_on_numbers` meets its contract: the closing on the record that the bytes hold, and its output written where it is accepted.
+-- `wheeling::close_on_numbers` meets its contract: the closing on the record that the bytes hold, and its output written where it is accepted.
 use borrow.Author.Needs.{needs}
 use mathlib.Core.Path.{_∙_, sym}
 use native.Mathlib.Omega.{arith}
 use Rattle.wheeling_rules.specs.WheelingLaws.{made, done, closing-room}
-use Rattle.wheeling_numbers.proofs.close_on_numbers.Statement.{statement}
-use Rattle.wheeling_numbers.proofs.close_on_numbers.Tie as tie
+use Rattle.wheeling.proofs.close_on_numbers.Statement.{statement}
+use Rattle.wheeling.proofs.close_on_numbers.Tie as tie
 
 close-on-requires : tie.Need-close-on-requires
 close-on-requires c κs = search needs

@@ -1,10 +1,10 @@
--- `wheeling_numbers::block_on_numbers` meets its contract: the block on the record that the bytes hold, and its output written where it is accepted.
+-- `wheeling::block_on_numbers` meets its contract: the block on the record that the bytes hold, and its output written where it is accepted.
 use borrow.Author.Needs.{needs}
 use mathlib.Core.Path.{_∙_, sym}
 use native.Mathlib.Omega.{arith}
 use Rattle.wheeling_rules.specs.WheelingLaws.{made, done, block-room}
-use Rattle.wheeling_numbers.proofs.block_on_numbers.Statement.{statement}
-use Rattle.wheeling_numbers.proofs.block_on_numbers.Tie as tie
+use Rattle.wheeling.proofs.block_on_numbers.Statement.{statement}
+use Rattle.wheeling.proofs.block_on_numbers.Tie as tie
 
 block-on-requires : tie.Need-block-on-requires
 block-on-requires c κs = search needs

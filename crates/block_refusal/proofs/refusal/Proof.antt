@@ -1,11 +1,11 @@
--- `block_refusal::own_refusal` meets its contract: the tests are those of refusals 10 to 12, in their order, where 2 does not apply.
+-- `block_refusal::refusal` meets its contract: the tests are those of refusals 10 to 12, in their order, where 2 does not apply.
 use mathlib.Core.Path.{sym}
 use Rattle.block_rules.specs.Refusals.{own-misfit, own-number}
 use native.Mathlib.Nat.{mul-le-mul}
 use native.Mathlib.Omega.{arith}
 use borrow.Author.Needs.{needs}
-use Rattle.block_refusal.proofs.own_refusal.Statement.{statement}
-use Rattle.block_refusal.proofs.own_refusal.Tie as tie
+use Rattle.block_refusal.proofs.refusal.Statement.{statement}
+use Rattle.block_refusal.proofs.refusal.Tie as tie
 
 mul-if1 : tie.Need-mul-if1
 mul-if1 c = let p = c .before .before in omega (arith, mul-le-mul (p .pre .0) (p .pre .1))
@@ -42,8 +42,8 @@ returns c = let tested = c .before .before .before .before .before in
 returns-2 : tie.Need-returns-2
 returns-2 c = sym (own-misfit _ _ _ _ _ _ _ (c .if1 .left))
 
-pub own-refusal-spec : {M : Type 1} → statement M
-own-refusal-spec =
+pub refusal-spec : {M : Type 1} → statement M
+refusal-spec =
     tie.close
     (tie.spec
     mul-if1
