@@ -72,6 +72,9 @@ FAULTS = {
     "block: reading limit one low":
         ("block_refusal/src/lib.rt", "energy::MOST_READING < lists::wide",
          "199_999_999 < lists::wide"),
+    "block: reading limit one high":
+        ("block_refusal/src/lib.rt", "energy::MOST_READING < lists::wide",
+         "200_000_001 < lists::wide"),
     "block: refusal 12 before 11":
         ("block_refusal/src/lib.rt",
          "first(record::MOST_MONTH_BLOCKS <= counts.month, 11, unit_full)",
@@ -271,6 +274,8 @@ EQUIVALENT = {
         "the edit is in the call on a record by value; the C call is `block_on`",
     "closing/record_untouched":
         "the edit is in the call on a record by value; the C call is `close_on`",
+    "sharing/energy_limit_one_high":
+        "a block refuses such a reading before it is shared",
 }
 
 # The line of compare.py, and that of reader.py, which knows one call only.
