@@ -120,7 +120,7 @@ class Wheel:
 
     def compare(self, what, text, expected):
         self.run_count += 1
-        run = subprocess.run([self.program], input=text, capture_output=True, timeout=600)
+        run = subprocess.run([self.program], input=text, capture_output=True, timeout=60)
         if run.returncode == 0 and run.stdout == expected:
             return
         self.differences += 1
