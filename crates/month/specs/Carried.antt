@@ -1,12 +1,17 @@
 -- What the calls of a list made of a record. Assumes nothing.
+use Prim.Native.Nat.{ℕ}
 use mathlib.Core.Path.{_≡_}
 use mathlib.Core.Bool.{true}
 use mathlib.Core.List.{List}
+use lib.ListN.{length}
+use Rattle.codec.specs.Bytes.{decode}
 use Rattle.record.specs.Book.{Book}
 use Rattle.record.specs.Stored.{figures}
 use Rattle.record.specs.Sound.{sound}
+use Rattle.record.specs.Words.{recordOf}
 use Rattle.record.specs.declared.Record.{Record}
 use Rattle.record.specs.declared.Answer.{Answer}
+use Rattle.layout_rules.specs.OnBytes.{bookIn}
 use Rattle.unit.specs.Calls.{Call, bookAfter, bookAnswers}
 use Rattle.report_rules.specs.Display.{firstRefused}
 
@@ -20,3 +25,14 @@ pub record Holds (r : Record) (b : Book) : Type 0 where
 pub record Carried (b : Book) (ks : List Call) (a : Answer) : Type 0 where
   pub number-is : a .number ≡ firstRefused (bookAnswers b ks)
   pub holds : a .number ≡ 0 → Holds (a .after) (bookAfter b ks)
+
+-- ---- on the record's bytes
+
+-- the bytes hold a sound record
+pub record Ready (bytes : List ℕ) : Type 0 where
+  pub whole : length bytes ≡ 5752
+  pub sound-is : sound (bookIn bytes) ≡ true
+
+-- the number that was returned, and the record that was left in the bytes
+abbrev pub answered : ℕ → List ℕ → Answer
+answered number bytes = record { number = number; after = recordOf (decode 8 719 bytes) }

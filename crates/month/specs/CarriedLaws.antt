@@ -5,6 +5,7 @@ use mathlib.Core.Bool.{Bool, true, false}
 use mathlib.Core.List.{List, [], _∷_, _++_}
 use borrow.Author.Tests.{eqb-true, eqb-false, eq-eqb}
 use lib.Dec.{eqb}
+use lib.ListN.{length}
 use Rattle.lists.specs.Choice.{if_then_else_}
 use Rattle.record.specs.Book.{Book}
 use Rattle.record.specs.Stored.{figures}
@@ -15,10 +16,12 @@ use Rattle.record.specs.Called.{recordAfter, Called}
 use Rattle.record.specs.CalledLaws.{record-facts, number-sound, record-accepted}
 use Rattle.record.specs.declared.Record.{Record}
 use Rattle.record.specs.declared.Answer.{Answer}
+use Rattle.layout_rules.specs.OnBytes.{recordIn, CalledOn, bookIn}
+use Rattle.layout_rules.specs.OnBytesLaws.{on-struct}
 use Rattle.unit.specs.Calls.{Call, ruleOf, next, bookAfter, bookAnswers}
 use Rattle.unit.specs.Demand3Proof.{call-keeps}
 use Rattle.report_rules.specs.Display.{firstRefused}
-use Rattle.month.specs.Carried.{Holds, Carried}
+use Rattle.month.specs.Carried.{Holds, Carried, Ready, answered}
 
 -- ---- one call
 
@@ -48,11 +51,16 @@ module _ (k : Call) {r : Record} {lent out′ : List ℕ} {a : Answer} (s : soun
       go true e = eqb-true (ruleOf k .refusal (figures r)) 0 e
       go false e = refl
 
+-- the same on the record's bytes
+pub carried-on : (k : Call) {bytes lent bytes′ out : List ℕ} {n : ℕ} → Ready bytes → CalledOn (ruleOf k) bytes lent n bytes′ out → Carried (bookIn bytes) (k ∷ []) (answered n bytes′)
+unfolding recordIn
+carried-on k {bytes} {lent} {bytes′} {out} {n} q h = carried-one k {a = answered n bytes′} (q .sound-is) (on-struct (recordIn bytes) (recordIn bytes′) (call-keeps k) refl refl h)
+
 -- ---- lists of calls
 
-pub carried-none : (r : Record) → sound (figures r) ≡ true → Carried (figures r) [] (record { number = 0; after = r })
+pub carried-none : (bytes : List ℕ) → Ready bytes → Carried (bookIn bytes) [] (answered 0 bytes)
 unfolding bookAnswers bookAfter firstRefused
-carried-none r s = record { number-is = refl; holds = λ z. record { is = refl; sound-is = s } }
+carried-none bytes q = record { number-is = refl; holds = λ z. record { is = refl; sound-is = q .sound-is } }
 
 book-append : (b : Book) (ks js : List Call) → bookAfter b (ks ++ js) ≡ bookAfter (bookAfter b ks) js
 unfolding bookAfter
@@ -103,5 +111,6 @@ module _ {b : Book} {ks : List Call} {a : Answer} (h : Carried b ks a) where
         holds = λ y. absurd (z y);
       }
 
-  pub carried-sound : a .number ≡ 0 → sound (figures (a .after)) ≡ true
-  carried-sound z = rw (h .holds z .is) (h .holds z .sound-is)
+-- an accepted list leaves a sound record
+pub carried-ready : {b : Book} {ks : List Call} {n : ℕ} {bytes : List ℕ} → Carried b ks (answered n bytes) → n ≡ 0 → length bytes ≡ 5752 → Ready bytes
+carried-ready h z whole = record { whole = whole; sound-is = rw (h .holds z .is) (h .holds z .sound-is) }

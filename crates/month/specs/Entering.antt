@@ -2,18 +2,21 @@
 use Prim.Native.Nat.{ℕ, suc, _+_, _-_, _≤_, _<_}
 use mathlib.Core.Path.{_≡_, refl, sym, ap, _∙_, subst}
 use mathlib.Core.Bool.{true}
-use mathlib.Core.List.{List, [], _∷_}
+use mathlib.Core.List.{List, [], _∷_, _++_}
 use native.Mathlib.Omega.{arith}
 use borrow.Author.Tests.{eq-eqb}
 use lib.ListN.{length, drop, getD, length-drop}
 use lib.Seq.{drop-cons}
+use Rattle.codec.specs.Bytes.{decode}
 use Rattle.record.specs.Book.{Book}
 use Rattle.record.specs.Stored.{figures, stored}
 use Rattle.record.specs.Sound.{sound}
+use Rattle.record.specs.Words.{recordOf}
 use Rattle.record.specs.SoundLaws.{Facts, facts-sound, facts-cut}
 use Rattle.record.specs.StoredLaws.{figures-stored}
 use Rattle.record.specs.declared.Record.{Record}
 use Rattle.record.specs.declared.Answer.{Answer}
+use Rattle.layout_rules.specs.OnBytes.{bookIn}
 use Rattle.agreement_rules.specs.Opening.{openingRefusal, opened, Opened}
 use Rattle.agreement_rules.specs.OpeningLaws.{accepted-permitted, opened-facts}
 use Rattle.agreement_rules.specs.Schedule.{Scheduled}
@@ -21,8 +24,8 @@ use Rattle.unit.specs.Calls.{block, closing, ruleOf, bookAfter, Entry, bookAnsw
 use Rattle.unit.specs.AgreementA.{agreementA, scheduleA}
 use Rattle.unit.specs.BenchCases.{bench-cases}
 use Rattle.report_rules.specs.Display.{blocks, calls, firstRefused}
-use Rattle.month.specs.Carried.{Holds, Carried}
-use Rattle.month.specs.CarriedLaws.{carried-one, carried-none, carried-then, carried-stop}
+use Rattle.month.specs.Carried.{Holds, Carried, Ready, answered}
+use Rattle.month.specs.CarriedLaws.{carried-one, carried-none, carried-then, carried-stop, carried-ready}
 
 -- ---- agreement A
 
@@ -75,42 +78,44 @@ blocks-line vs i h =
     let c : i + 3 ≡ suc (suc (suc i)) = omega arith in
     rw (a, b, c, drop-cons vs i 0 (omega arith), drop-cons vs (suc i) 0 (omega arith), drop-cons vs (suc (suc i)) 0 (omega arith))
 
--- The invariant of the loop over the lines: i values are entered, and carrying out the lines after them on the record at carries
--- out all lines on the first record.
-pub record Entering (first : Record) (vs : List ℕ) (at : Record) (i : ℕ) : Type 0 where
+-- The invariant of the loop over the lines: i values are entered, and carrying out the lines after them on the record in the bytes at
+-- carries out all lines on the record that start held.
+pub record Entering (start vs at : List ℕ) (i : ℕ) : Type 0 where
   pub within : i ≤ length vs
-  pub sound-is : sound (figures at) ≡ true
-  pub rest : (a : Answer) → Carried (figures at) (blocks (drop i vs)) a → Carried (figures first) (blocks vs) a
+  pub ready : Ready at
+  pub rest : (a : Answer) → Carried (bookIn at) (blocks (drop i vs)) a → Carried (bookIn start) (blocks vs) a
 
-pub entering-start : (r : Record) (vs : List ℕ) → sound (figures r) ≡ true → Entering r vs r 0
-entering-start r vs s = record { within = omega arith; sound-is = s; rest = λ a h. h }
+pub entering-start : (s vs : List ℕ) → Ready s → Entering s vs s 0
+entering-start s vs q = record { within = omega arith; ready = q; rest = λ a h. h }
 
-module _ {first : Record} {vs : List ℕ} {at : Record} {i : ℕ} (h : Entering first vs at i) where
-  module _ {a : Answer} (l : 2 < length vs - i) (k : Carried (figures at) (block (getD vs i 0 ∷ []) (getD vs (i + 1) 0 ∷ getD vs (i + 2) 0 ∷ []) 11 ∷ []) a) where
-    pub entering-step : a .number ≡ 0 → Entering first vs (a .after) (i + 3)
-    entering-step z =
+module _ {start vs at : List ℕ} {i : ℕ} (h : Entering start vs at i) where
+  module _ (s : List ℕ) {n : ℕ} (l : 2 < length vs - i) (k : Carried (bookIn at) (block (getD vs i 0 ∷ []) (getD vs (i + 1) 0 ∷ getD vs (i + 2) 0 ∷ []) 11 ∷ []) (answered n s)) where
+    pub entering-step : n ≡ 0 → length s ≡ 5752 → Entering start vs s (i + 3)
+    entering-step z whole =
         record {
           within = omega arith;
-          sound-is = rw (k .holds z .is) (k .holds z .sound-is);
-          rest = λ a′ k′. h .rest a′ (rw (blocks-line vs i l) (carried-then k z k′));
+          ready = carried-ready k z whole;
+          rest = λ a k′. h .rest a (rw (blocks-line vs i l) (carried-then k z k′));
         }
 
-    pub entering-stop : (a .number ≡ 0 → ⊥) → Carried (figures first) (blocks vs) a
-    entering-stop z = h .rest a (rw (blocks-line vs i l) (carried-stop k (blocks (drop (i + 3) vs)) z))
+    pub entering-stop : (n ≡ 0 → ⊥) → Carried (bookIn start) (blocks vs) (answered n s)
+    entering-stop z = h .rest (answered n s) (rw (blocks-line vs i l) (carried-stop k (blocks (drop (i + 3) vs)) z))
 
-  pub entering-done : length vs - i ≤ 2 → Carried (figures first) (blocks vs) (record { number = 0; after = at })
-  entering-done l = h .rest (record { number = 0; after = at }) (rw (blocks-none (drop i vs) (omega (arith, length-drop i vs))) (carried-none at (h .sound-is)))
+  pub entering-done : length vs - i ≤ 2 → Carried (bookIn start) (blocks vs) (answered 0 at)
+  entering-done l = h .rest (answered 0 at) (rw (blocks-none (drop i vs) (omega (arith, length-drop i vs))) (carried-none at (h .ready)))
 
 -- ---- the month
 
 scheduled : {r : Record} → Holds r (bookAfter (opened agreementA) (scheduleA ∷ [])) → Carried (opened agreementA) (scheduleA ∷ []) (record { number = 0; after = r })
 scheduled {r} q = record { number-is = sym schedule-first; holds = λ z. q }
 
-module _ (vs : List ℕ) {r : Record} {a : Answer} (q : Holds r (bookAfter (opened agreementA) (scheduleA ∷ []))) (k : Carried (figures r) (blocks vs) a) where
-  pub month-stop : (a .number ≡ 0 → ⊥) → Carried (opened agreementA) (calls vs) a
-  unfolding calls
-  month-stop z = carried-then (scheduled q) refl (carried-stop k (closing 9 ∷ []) z)
+-- the bytes of the record that agreement A starts with
+module _ (s : List ℕ) {r : Record} (q : Holds r (bookAfter (opened agreementA) (scheduleA ∷ []))) (e : recordOf (decode 8 719 s) ≡ r) where
+  pub month-ready : length s ≡ 5752 → Ready s
+  month-ready whole = record { whole = whole; sound-is = ap (λ (x : Record). sound (figures x)) e ∙ ap sound (q .is) ∙ q .sound-is }
 
-  pub month-close : {a′ : Answer} → a .number ≡ 0 → Carried (figures (a .after)) (closing 9 ∷ []) a′ → Carried (opened agreementA) (calls vs) a′
+  pub month-carried : (vs s′ : List ℕ) {n : ℕ} {after : Record} → Carried (bookIn s) (blocks vs ++ (closing 9 ∷ [])) (answered n s′) → after ≡ recordOf (decode 8 719 s′)
+      → Carried (opened agreementA) (calls vs) (record { number = n; after = after })
   unfolding calls
-  month-close z k′ = carried-then (scheduled q) refl (carried-then k z k′)
+  month-carried vs s′ {n} {after} k loaded =
+      rw loaded (carried-then (scheduled q) refl (subst (λ (x : Record). Carried (figures x) (blocks vs ++ (closing 9 ∷ [])) (answered n s′)) e k))

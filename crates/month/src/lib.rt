@@ -1,14 +1,13 @@
-// The calls of program `wheel`: agreement A, each line of a table as a block under it, and the closing.
-ghost use mathlib.Core.Path.{_≡_};
-ghost use mathlib.Core.Bool.{true};
-ghost use mathlib.Core.List.{[], _∷_};
-ghost use Rattle.record.specs.Stored.{figures};
-ghost use Rattle.record.specs.Sound.{sound};
+// The calls of program `wheel`: agreement A, each line of a table as a block under it, and the closing. They work on the record's bytes: by
+// value the record would be copied with every line.
+// A function with a `requires` is called by this crate only, and meets it.
+ghost use mathlib.Core.List.{[], _∷_, _++_};
+ghost use Rattle.layout_rules.specs.OnBytes.{bookIn};
 ghost use Rattle.agreement_rules.specs.Opening.{opened};
 ghost use Rattle.unit.specs.Calls.{Call, bookAfter};
 ghost use Rattle.unit.specs.AgreementA.{agreementA, scheduleA};
 ghost use Rattle.report_rules.specs.Display.{blocks, calls};
-ghost use Rattle.month.specs.Carried.{Holds, Carried};
+ghost use Rattle.month.specs.Carried.{Holds, Carried, Ready, answered};
 use record::Answer;
 use record::Record;
 
@@ -27,56 +26,60 @@ fn agreement_a() -> Record
 }
 
 // One line as a block: the entry reading e, the exit readings r1 and r2.
-fn enter_line(r: Record, e: u32, r1: u32, r2: u32) -> Answer
-    requires { ⌜ sound (figures r) ≡ true ⌝ }
-    ensures { λ a. ⌜ Carried (figures r) (Call.block (e ∷ []) (r1 ∷ r2 ∷ []) 11 ∷ []) a ⌝ }
+fn enter_line(s: &mut [u8], e: u32, r1: u32, r2: u32) -> u32
+    requires { ⌜ Ready (now s) ⌝ }
+    ensures { λ n. ⌜ Carried (bookIn (now (s .entry))) (Call.block (e ∷ []) (r1 ∷ r2 ∷ []) 11 ∷ []) (answered n (now (s .exit))) ⌝ }
 {
     let entry = [e];
     let exit = [r1, r2];
     let mut lists = [0u64; 11];
-    block::block(r, &entry, &exit, &mut lists)
+    block::block_on(s, &entry, &exit, &mut lists)
 }
 
 // The lines in their order, up to the first that is refused.
-fn enter_lines(r: Record, values: &[u32]) -> Answer
-    requires { ⌜ sound (figures r) ≡ true ⌝ }
-    ensures { λ a. ⌜ Carried (figures r) (blocks (now (values .entry))) a ⌝ }
+fn enter_lines(s: &mut [u8], values: &[u32]) -> u32
+    requires { ⌜ Ready (now s) ⌝ }
+    ensures { λ n. ⌜ Carried (bookIn (now (s .entry))) (blocks (now (values .entry))) (answered n (now (s .exit))) ⌝ }
 {
-    let mut at = r;
     let mut i: usize = 0;
     while 2 < values.len() - i {
-        let a = enter_line(at, values[i], values[i + 1], values[i + 2]);
-        let number = a.number;
+        let number = enter_line(s, values[i], values[i + 1], values[i + 2]);
         if number != 0 {
-            return a;
+            return number;
         }
-        at = a.after;
         i += 3;
     }
-    Answer {
-        number: 0,
-        after: at,
-    }
+    0
 }
 
-fn close_month(r: Record) -> Answer
-    requires { ⌜ sound (figures r) ≡ true ⌝ }
-    ensures { λ a. ⌜ Carried (figures r) (Call.closing 9 ∷ []) a ⌝ }
+fn close_month(s: &mut [u8]) -> u32
+    requires { ⌜ Ready (now s) ⌝ }
+    ensures { λ n. ⌜ Carried (bookIn (now (s .entry))) (Call.closing 9 ∷ []) (answered n (now (s .exit))) ⌝ }
 {
     let mut lists = [0u64; 9];
-    closing::close(r, &mut lists)
+    closing::close_on(s, &mut lists)
+}
+
+// The lines, and the closing where none of them is refused.
+fn enter_and_close(s: &mut [u8], values: &[u32]) -> u32
+    requires { ⌜ Ready (now s) ⌝ }
+    ensures { λ n. ⌜ Carried (bookIn (now (s .entry))) (blocks (now (values .entry)) ++ (Call.closing 9 ∷ [])) (answered n (now (s .exit))) ⌝ }
+{
+    let number = enter_lines(s, values);
+    if number != 0 {
+        return number;
+    }
+    close_month(s)
 }
 
 // The calls for the values of a table, up to the first that is refused.
 pub fn month(values: &[u32]) -> Answer
     ensures { λ a. ⌜ Carried (opened agreementA) (calls (now (values .entry))) a ⌝ }
 {
-    let r = agreement_a();
-    let entered = enter_lines(r, values);
-    let number = entered.number;
-    if number != 0 {
-        return entered;
-    }
-    let after = entered.after;
-    close_month(after)
+    let start = agreement_a();
+    let mut s = [0u8; 5752];
+    storing::store(start, &mut s);
+    let number = enter_and_close(&mut s, values);
+    let after = loading::load(&s);
+    Answer { number, after }
 }

@@ -2,34 +2,39 @@
 use mathlib.Core.List.{[], _∷_}
 use borrow.Author.Needs.{needs}
 use Rattle.unit.specs.Calls.{block, ruleOf}
-use Rattle.month.specs.CarriedLaws.{carried-one}
+use Rattle.month.specs.CarriedLaws.{carried-on}
 use Rattle.month.proofs.enter_line.Statement.{statement}
 use Rattle.month.proofs.enter_line.Tie as tie
 
-slice-aggregate-block : tie.Need-slice-aggregate-block
-slice-aggregate-block c = search needs
+slice-aggregate-block-on : tie.Need-slice-aggregate-block-on
+slice-aggregate-block-on c = search needs
 
-slice-aggregate-block-2 : tie.Need-slice-aggregate-block-2
-slice-aggregate-block-2 c = search needs
+slice-aggregate-block-on-2 : tie.Need-slice-aggregate-block-on-2
+slice-aggregate-block-on-2 c = search needs
 
-slice-aggregate-block-3 : tie.Need-slice-aggregate-block-3
-slice-aggregate-block-3 c = search needs
+slice-aggregate-block-on-3 : tie.Need-slice-aggregate-block-on-3
+slice-aggregate-block-on-3 c = search needs
 
-block-requires : tie.Need-block-requires
-block-requires c κs = search needs
+block-on-requires : tie.Need-block-on-requires
+block-on-requires c κs = search needs
+
+same-length : tie.Need-same-length
+same-length c = search needs
 
 returns : tie.Need-returns
 unfolding ruleOf
 returns c =
-    let s = c .before .before .before .before .before in
-    carried-one (block (s .args .e ∷ []) (s .args .r1 ∷ s .args .r2 ∷ []) 11) (s .pre) (c .before .block .ensures)
+    let called = c .before .before .before in
+    let start = called .before .before .before .before .before .before in
+    carried-on (block (start .args .e ∷ []) (start .args .r1 ∷ start .args .r2 ∷ []) 11) (start .pre) (called .block-on .ensures)
 
 pub enter-line-spec : {M : Type 1} → statement M
 enter-line-spec =
     tie.close
     (tie.spec
-    slice-aggregate-block
-    slice-aggregate-block-2
-    slice-aggregate-block-3
-    block-requires
+    slice-aggregate-block-on
+    slice-aggregate-block-on-2
+    slice-aggregate-block-on-3
+    block-on-requires
+    same-length
     returns)

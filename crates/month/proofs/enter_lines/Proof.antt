@@ -1,5 +1,6 @@
 -- `month::enter_lines` meets its contract. The loop's invariant: the lines after i values, carried out on the record, carry out all. Assumes nothing.
 use Prim.Native.Nat.{_-_}
+use native.Mathlib.Omega.{arith}
 use borrow.Author.Needs.{needs}
 use lib.ListN.{length}
 use Rattle.month.specs.Entering.{Entering, entering-start, entering-step, entering-stop, entering-done}
@@ -7,13 +8,13 @@ use Rattle.month.proofs.enter_lines.Statement.{statement}
 use Rattle.month.proofs.enter_lines.Tie as tie
 
 abbrev Inv-loop : tie.InvT-loop
-Inv-loop values at₀ i₀ at i = Entering at₀ values at i
+Inv-loop s₀ values i₀ s i = Entering s₀ values s i
 
 abbrev μ-loop : tie.MeasureT-loop
-μ-loop values at₀ i₀ at i = length values - i
+μ-loop s₀ values i₀ s i = length values - i
 
 loop-holds : tie.Need-loop-holds Inv-loop μ-loop
-loop-holds c = entering-start (c .before .args .r) (c .before .args .values .now) (c .before .pre)
+loop-holds c = let start = c .before .before in entering-start (start .args .s .now) (start .args .values .now) (start .pre)
 
 sub-loop : tie.Need-sub-loop Inv-loop μ-loop
 sub-loop c = search needs
@@ -45,8 +46,13 @@ shared-slice-read-enter-line-3 c = search needs
 enter-line-requires : tie.Need-enter-line-requires Inv-loop μ-loop
 enter-line-requires c κs = search needs
 
+same-length : tie.Need-same-length Inv-loop μ-loop
+same-length c = search needs
+
 returns : tie.Need-returns Inv-loop μ-loop
-returns c = entering-stop (c .before .before .before .before .before .before .loop .inv) (search needs) (c .before .enter-line .ensures) (c .if1 .taken)
+returns c =
+    let called = c .before .before .before in
+    entering-stop (called .before .before .before .before .before .before .loop .inv) (called .enter-line .last .0) (search needs) (called .enter-line .ensures) (c .if1 .taken)
 
 add-i : tie.Need-add-i Inv-loop μ-loop
 add-i c = search needs
@@ -55,7 +61,13 @@ loop-less : tie.Need-loop-less Inv-loop μ-loop
 loop-less c = search needs
 
 loop-again : tie.Need-loop-again Inv-loop μ-loop
-loop-again c = entering-step (c .before .before .before .before .before .before .before .loop .inv) (search needs) (c .before .before .enter-line .ensures) (c .before .if1 .left)
+loop-again c =
+    let called = c .before .before .before in
+    let entered = called .before .before .before .before .before .before .loop .inv in
+    entering-step entered (called .enter-line .last .0) (search needs) (called .enter-line .ensures) (c .if1 .left) (omega (arith, called .enter-line .kept .0, entered .ready .whole))
+
+same-length-2 : tie.Need-same-length-2 Inv-loop μ-loop
+same-length-2 c = search needs
 
 returns-2 : tie.Need-returns-2 Inv-loop μ-loop
 returns-2 c = entering-done (c .before .loop .inv) (search needs)
@@ -77,8 +89,10 @@ enter-lines-spec =
     mul-enter-line-3
     shared-slice-read-enter-line-3
     enter-line-requires
+    same-length
     returns
     add-i
     loop-less
     loop-again
+    same-length-2
     returns-2)

@@ -1,35 +1,54 @@
--- `month::month` meets its contract: the schedule, the lines and the closing one after the other. Assumes nothing.
-use mathlib.Core.Path.{ap, _∙_}
+-- `month::month` meets its contract: agreement A, then the lines and the closing on its bytes. Assumes nothing.
 use borrow.Author.Needs.{needs}
-use Rattle.record.specs.Sound.{sound}
-use Rattle.month.specs.CarriedLaws.{carried-sound}
-use Rattle.month.specs.Entering.{month-stop, month-close}
+use Rattle.month.specs.Entering.{month-ready, month-carried}
 use Rattle.month.proofs.month.Statement.{statement}
 use Rattle.month.proofs.month.Tie as tie
 
 agreement-a-requires : tie.Need-agreement-a-requires
 agreement-a-requires c κs = search needs
 
-enter-lines-requires : tie.Need-enter-lines-requires
-enter-lines-requires c κs = ap sound (c .agreement-a .ensures .is) ∙ c .agreement-a .ensures .sound-is
+slice-aggregate-store : tie.Need-slice-aggregate-store
+slice-aggregate-store c = search needs
+
+store-requires : tie.Need-store-requires
+store-requires c κs = search needs
+
+slice-aggregate-enter-and-close : tie.Need-slice-aggregate-enter-and-close
+slice-aggregate-enter-and-close c = search needs
+
+enter-and-close-requires : tie.Need-enter-and-close-requires
+enter-and-close-requires c κs =
+    let put = c .before .before in
+    month-ready (put .store .last .1 .0) (put .before .before .agreement-a .ensures) (put .store .ensures .1) (search needs)
+
+slice-aggregate-load : tie.Need-slice-aggregate-load
+slice-aggregate-load c = search needs
+
+load-requires : tie.Need-load-requires
+load-requires c κs = search needs
 
 returns : tie.Need-returns
 returns c =
-    month-stop (c .before .before .before .before .args .values .now) (c .before .before .agreement-a .ensures) (c .before .enter-lines .ensures) (c .if1 .taken)
-
-close-month-requires : tie.Need-close-month-requires
-close-month-requires c κs = carried-sound (c .before .before .enter-lines .ensures) (c .before .if1 .left)
-
-returns-2 : tie.Need-returns-2
-returns-2 c =
-    month-close
-    (c .before .before .before .before .before .before .args .values .now)
-    (c .before .before .before .before .agreement-a .ensures)
-    (c .before .before .before .enter-lines .ensures)
-    (c .before .before .if1 .left)
-    (c .close-month .ensures)
+    let entered = c .before .before .before in
+    let put = entered .before .before .before in
+    month-carried
+    (put .store .last .1 .0)
+    (put .before .before .agreement-a .ensures)
+    (put .store .ensures .1)
+    (put .before .before .before .before .args .values .now)
+    (entered .enter-and-close .last .0)
+    (entered .enter-and-close .ensures)
+    (c .load .ensures)
 
 pub month-spec : {M : Type 1} → statement M
 month-spec =
     tie.close
-    (tie.spec agreement-a-requires enter-lines-requires returns close-month-requires returns-2)
+    (tie.spec
+    agreement-a-requires
+    slice-aggregate-store
+    store-requires
+    slice-aggregate-enter-and-close
+    enter-and-close-requires
+    slice-aggregate-load
+    load-requires
+    returns)
