@@ -50,39 +50,11 @@ fewer m c l up h = record { size = h .size; placed = omega (arith, h .placed); l
 pub row-cap : (m first g : ℕ) {xs : List ℕ} → Moderate xs → rowSum m xs first g ≤ m * mostFigure
 row-cap m first g {xs} h = sum-cap m mostFigure (λ c. getD xs (first + (g * m + c)) 0) (λ c l. h .at (first + (g * m + c)))
 
+pub column-cap : (n m first c : ℕ) {xs : List ℕ} → Moderate xs → columnSum n m xs first c ≤ n * mostFigure
+column-cap n m first c {xs} h = sum-cap n mostFigure (λ g. getD xs (first + (g * m + c)) 0) (λ g l. h .at (first + (g * m + c)))
+
 pub row-within : (n m g : ℕ) → g < n → g * m + m ≤ n * m
 row-within n m g h = omega (arith, mul-le-mul-right m h, suc-mul g m)
-
-module _ (at m first : ℕ) (xs s : List ℕ) where
-  pub no-rows : Raised (from at) m (columnSum 0 m xs first) s s
-  no-rows = record { size = refl; is = sym (raised-nothing (from at) (columnSum 0 m xs first) (decode 8 719 s) m (λ c l. sum-none (λ g. getD xs (first + (g * m + c)) 0))) }
-
-  pub one-row : (g : ℕ) {t u : List ℕ} → at + m ≤ 719 → Raised (from at) m (columnSum g m xs first) s t →
-      Raised (from at) m (λ c. getD xs (first + g * m + c) 0) t u → Raised (from at) m (columnSum (g + 1) m xs first) s u
-  one-row g b r d =
-      let row : ℕ → ℕ = λ c. getD xs (first + g * m + c) 0 in
-      let ws : List ℕ = decode 8 719 s in
-      record {
-        size = d .size ∙ r .size;
-        is =
-            d .is ∙ ap (raised (from at) m row) (r .is) ∙ raised-twice at (columnSum g m xs first) row ws m (omega (arith, length-decode 8 719 s)) ∙
-            raised-same (from at) (λ c. columnSum g m xs first c + row c) (columnSum (g + 1) m xs first) ws m
-            (λ c o. omega (arith, sum-more g (λ h. getD xs (first + (h * m + c)) 0), ap (λ (k : ℕ). getD xs k 0) (add-assoc first (g * m) c)));
-      }
-
-  -- with few rows added there is room for more
-  pub rows-low : (g : ℕ) {t : List ℕ} → Raisable at m mostFigure s → Moderate xs → g ≤ 8 → Raised (from at) m (columnSum g m xs first) s t → Raisable at m mostRaised t
-  rows-low g {t} h x few r =
-      let most : (c : ℕ) → c < m → columnSum g m xs first c ≤ g * mostFigure = λ c l. sum-cap g mostFigure (λ k. getD xs (first + (k * m + c)) 0) (λ k o. x .at (first + (k * m + c))) in
-      let fits : at + m ≤ length (decode 8 719 s) = omega (arith, h .placed, length-decode 8 719 s) in
-      record {
-        size = r .size ∙ h .size;
-        placed = h .placed;
-        low =
-            record {
-              at = λ k l. omega (arith, ap (λ (ws : List ℕ). getD ws k 0) (r .is), raised-cap at m (g * mostFigure) (columnSum g m xs first) (decode 8 719 s) fits most k, h .low .at k l);
-            };
-      }
 
 -- ---- numbers replaced
 

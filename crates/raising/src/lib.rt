@@ -1,9 +1,9 @@
 // Numbers of a record's bytes changed where they stand: raised by the numbers of a list, or by the sums of its rows and columns, or replaced.
 // Called by this repository's crates only: what a function requires, its callers meet.
 ghost use mathlib.Core.Path.{_≡_};
-ghost use Prim.Native.Nat.{_+_, _*_, _≤_};
+ghost use Prim.Native.Nat.{_+_, _*_, _≤_, _<_};
 ghost use lib.ListN.{length, getD};
-ghost use Rattle.arrays.specs.Bounds.{mostFigure, Moderate};
+ghost use Rattle.arrays.specs.Bounds.{Moderate};
 ghost use Rattle.layout_rules.specs.Raised.{from};
 ghost use Rattle.raising.specs.Raise.{rowSum, columnSum, Raised, mostRaised, Raisable, Replaced, Replaceable};
 
@@ -17,6 +17,20 @@ pub fn row_sum(xs: &[u64], first: usize, m: usize, g: usize) -> u64
     while c < m {
         sum += xs[first + (g * m + c)];
         c += 1;
+    }
+    sum
+}
+
+// The sum of column c of the n rows of m numbers that start at `first`.
+fn column_sum(xs: &[u64], first: usize, n: usize, m: usize, c: usize) -> u64
+    requires { ⌜ (first + n * m ≤ length (now xs)) × ((c < m) × ((n ≤ 8) × Moderate (now xs))) ⌝ }
+    ensures { λ r. ⌜ r ≡ columnSum n m (now (xs .entry)) first c ⌝ }
+{
+    let mut sum: u64 = 0;
+    let mut g: usize = 0;
+    while g < n {
+        sum += xs[first + (g * m + c)];
+        g += 1;
     }
     sum
 }
@@ -57,13 +71,13 @@ pub fn raise_rows(s: &mut [u8], at: usize, xs: &[u64], first: usize, n: usize, m
 }
 
 pub fn raise_columns(s: &mut [u8], at: usize, xs: &[u64], first: usize, n: usize, m: usize)
-    requires { ⌜ Raisable at m mostFigure (now s) × ((first + n * m ≤ length (now xs)) × ((n ≤ 8) × Moderate (now xs))) ⌝ }
+    requires { ⌜ Raisable at m mostRaised (now s) × ((first + n * m ≤ length (now xs)) × ((n ≤ 8) × Moderate (now xs))) ⌝ }
     ensures { λ _. ⌜ Raised (from at) m (columnSum n m (now (xs .entry)) first) (now (s .entry)) (now (s .exit)) ⌝ }
 {
-    let mut g: usize = 0;
-    while g < n {
-        raise_numbers(s, at, xs, first + g * m, m);
-        g += 1;
+    let mut c: usize = 0;
+    while c < m {
+        in_place::add_at(s, at + c, column_sum(xs, first, n, m, c));
+        c += 1;
     }
 }
 

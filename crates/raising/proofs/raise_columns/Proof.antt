@@ -1,60 +1,51 @@
--- `raising::raise_columns` meets its contract: all numbers are raised by the rows passed. Assumes nothing.
+-- `raising::raise_columns` meets its contract: the numbers passed are raised by the sums of their columns. Assumes nothing.
 use Prim.Native.Nat.{_-_, _≤_}
-use mathlib.Core.Path.{_≡_}
+use mathlib.Core.Path.{_∙_}
 use native.Mathlib.Omega.{arith}
 use borrow.Author.Needs.{needs}
 use Rattle.layout_rules.specs.Raised.{from}
 use Rattle.raising.specs.Raise.{columnSum, Raised}
-use Rattle.raising.specs.RaiseLaws.{row-within, no-rows, one-row, rows-low}
+use Rattle.raising.specs.RaiseLaws.{none-raised, one-more, all-raised, next-low, column-cap}
 use Rattle.raising.proofs.raise_columns.Statement.{statement}
 use Rattle.raising.proofs.raise_columns.Tie as tie
 
 abbrev Inv-loop : tie.InvT-loop
-Inv-loop s₀ at xs first n m g₀ s g = (g ≤ n) × Raised (from at) m (columnSum g m xs first) s₀ s
+Inv-loop s₀ at xs first n m c₀ s c = (c ≤ m) × Raised (from at) c (columnSum n m xs first) s₀ s
 
 abbrev μ-loop : tie.MeasureT-loop
-μ-loop s₀ at xs first n m g₀ s g = n - g
+μ-loop s₀ at xs first n m c₀ s c = m - c
 
 loop-holds : tie.Need-loop-holds Inv-loop μ-loop
-loop-holds c = let a = c .before .before .args in (omega arith, no-rows (a .at) (a .m) (a .first) (a .xs .now) (a .s .now))
+loop-holds c = (omega arith, none-raised)
 
-mul-raise-numbers : tie.Need-mul-raise-numbers Inv-loop μ-loop
-mul-raise-numbers c = let l = c .before .before .loop in
-    let start = c .before .before .before .before .before in
-    omega (arith, start .pre .1 .0, row-within (start .args .n) (start .args .m) (l .g) (omega arith))
+add-add-at : tie.Need-add-add-at Inv-loop μ-loop
+add-add-at c = search needs
 
-add-raise-numbers : tie.Need-add-raise-numbers Inv-loop μ-loop
-add-raise-numbers c = let l = c .before .before .loop in
-    let start = c .before .before .before .before .before in
-    omega (arith, start .pre .1 .0, row-within (start .args .n) (start .args .m) (l .g) (omega arith))
+column-sum-requires : tie.Need-column-sum-requires Inv-loop μ-loop
+column-sum-requires c κs = let start = c .before .before .before .before .before in (start .pre .1 .0, (omega arith, start .pre .1 .1))
 
-raise-numbers-requires : tie.Need-raise-numbers-requires Inv-loop μ-loop
-raise-numbers-requires c κs = let l = c .before .before .loop in
-    let start = c .before .before .before .before .before in
-    let a = start .args in
-    let sums = start .pre .1 in
-    (rows-low (a .at) (a .m) (a .first) (a .xs .now) (a .s .now) (l .g) (start .pre .0) (sums .1 .1) (omega (arith, sums .1 .0)) (l .inv .1), (omega (arith, sums .0, row-within (a .n) (a .m) (l .g) (omega arith)), sums .1 .1))
+add-at-requires : tie.Need-add-at-requires Inv-loop μ-loop
+add-at-requires c κs = let l = c .before .before .before .loop in
+    let start = c .before .before .before .before .before .before in
+    let able = start .pre .0 in
+    (l .inv .1 .size ∙ able .size, (omega (arith, able .placed), omega (arith, next-low able (l .inv .1), c .column-sum .ensures, column-cap (start .args .n) (start .args .m) (start .args .first) (l .c) (start .pre .1 .1 .1))))
 
-add-g : tie.Need-add-g Inv-loop μ-loop
-add-g c = search needs
+add-c : tie.Need-add-c Inv-loop μ-loop
+add-c c = search needs
 
 loop-less : tie.Need-loop-less Inv-loop μ-loop
 loop-less c = search needs
 
 loop-again : tie.Need-loop-again Inv-loop μ-loop
 loop-again c = let call = c .before .before in
-    let l = call .before .before .before .loop in
-    let start = call .before .before .before .before .before .before in
-    let a = start .args in
-    (omega arith, one-row (a .at) (a .m) (a .first) (a .xs .now) (a .s .now) (l .g) (start .pre .0 .placed) (l .inv .1) (call .raise-numbers .ensures))
+    let l = call .before .before .before .before .loop in
+    (omega arith, one-more (l .inv .1) (call .before .column-sum .ensures) (call .add-at .kept .0) (call .add-at .ensures))
 
 same-length : tie.Need-same-length Inv-loop μ-loop
 same-length c = search needs
 
 returns : tie.Need-returns Inv-loop μ-loop
-returns c = let l = c .before .loop in
-    let e : l .g ≡ c .before .before .before .before .args .n = omega arith in
-    rw (← e) (l .inv .1)
+returns c = all-raised (c .before .loop .inv .1) (omega arith)
 
 pub raise-columns-spec : {M : Type 1} → statement M
 raise-columns-spec =
@@ -63,10 +54,10 @@ raise-columns-spec =
     Inv-loop
     μ-loop
     loop-holds
-    mul-raise-numbers
-    add-raise-numbers
-    raise-numbers-requires
-    add-g
+    add-add-at
+    column-sum-requires
+    add-at-requires
+    add-c
     loop-less
     loop-again
     same-length
