@@ -38,7 +38,7 @@ use Rattle.block_rules.specs.Settling.{settleable}
 use Rattle.block_rules.specs.RoomLaws.{output-moderate}
 use Rattle.layout_rules.specs.OnBytes.{bookIn}
 use Rattle.raising.specs.Raise.{rowSum, columnSum, Raisable}
-use Rattle.block_totals.specs.Totals.{fourRaised, generatorsRaised, consumersRaised, countsRaised, OutputLists, Settled}
+use Rattle.block_totals.specs.Totals.{fourRaised, generatorsRaised, consumersRaised, countsRaised, BlockLists, Settled}
 
 -- the counts of blocks, behind the five first numbers
 counted : (xs : List ℕ) → length xs ≡ 7 →
@@ -295,7 +295,7 @@ module _ {s : List ℕ} {n m : ℕ} {entry exit out : List ℕ} (h : Settled s n
   pub exit-sized : length exit ≡ m
   exit-sized = h .enterable .exit-size ∙ sym (h .consumers)
 
-  pub lists-stand : OutputLists n m out
+  pub lists-stand : BlockLists n m out
   unfolding figures planOf blockLength
   lists-stand =
       record {

@@ -1,16 +1,15 @@
 -- Rule 8 where the totals stand: which numbers of the record a block raises, and by which sums of its output. Assumes nothing.
-use Prim.Native.Nat.{ℕ, _+_, _*_, _≤_}
+use Prim.Native.Nat.{ℕ, _+_, _*_}
 use mathlib.Core.Path.{_≡_}
 use mathlib.Core.List.{List}
 use lib.Dec.{eqb}
 use lib.ListN.{length, getD}
 use Rattle.lists.specs.Choice.{if_then_else_}
-use Rattle.arrays.specs.Bounds.{Moderate}
 use Rattle.settlement_rules.specs.Settlement.{blockOutput}
 use Rattle.record.specs.SoundLaws.{Facts}
 use Rattle.layout_rules.specs.OnBytes.{bookIn}
 use Rattle.layout_rules.specs.Raised.{raised, from}
-use Rattle.raising.specs.Raise.{rowSum, columnSum}
+use Rattle.raising.specs.Raise.{rowSum, columnSum, OutputLists}
 use Rattle.block_rules.specs.Block.{entryOf, exitOf}
 use Rattle.block_rules.specs.BlockLaws.{Enterable}
 
@@ -44,12 +43,9 @@ module _ (n m : ℕ) (readings out ws : List ℕ) where
 unfoldable pub countsRaised : List ℕ → List ℕ
 countsRaised = raised (from 5) 2 (λ i. 1)
 
--- the lists of a block of n generators and m consumers, with no number that is more than a sound record's
-pub record OutputLists (n m : ℕ) (out : List ℕ) : Type 0 where
-  pub generators-few : n ≤ 8
-  pub consumers-few : m ≤ 16
-  pub size : length out ≡ 4 * (n * m) + n + m
-  pub moderate : Moderate out
+-- the lists of a block
+abbrev pub BlockLists : (n m : ℕ) (out : List ℕ) → Type 0
+BlockLists n m = OutputLists (4 * (n * m) + n + m) n m
 
 -- ---- the call
 

@@ -10,7 +10,7 @@ ghost use Rattle.record.specs.Words.{words};
 ghost use Rattle.block_rules.specs.Block.{entryOf, exitOf, afterBlock};
 ghost use Rattle.layout_rules.specs.OnBytes.{bookIn};
 ghost use Rattle.raising.specs.Raise.{rowSum, Raised, mostRaised, Raisable};
-ghost use Rattle.block_totals.specs.Totals.{underdrawnPlace, generatorsRaised, consumersRaised, OutputLists, Settled};
+ghost use Rattle.block_totals.specs.Totals.{underdrawnPlace, generatorsRaised, consumersRaised, BlockLists, Settled};
 
 fn underdrawn_place(s: &[u8], g: usize) -> usize
     requires { ⌜ (length (now s) ≡ 5752) × (g < 8) ⌝ }
@@ -36,7 +36,7 @@ fn raise_underdrawn(s: &mut [u8], xs: &[u64], first: usize, n: usize, m: usize)
 }
 
 fn raise_generators(s: &mut [u8], entry: &[u32], out: &[u64], n: usize, m: usize)
-    requires { ⌜ Raisable 543 80 mostFigure (now s) × ((length (now entry) ≡ n) × OutputLists n m (now out)) ⌝ }
+    requires { ⌜ Raisable 543 80 mostFigure (now s) × ((length (now entry) ≡ n) × BlockLists n m (now out)) ⌝ }
     ensures { λ _. ⌜ decode 8 719 (now (s .exit)) ≡ generatorsRaised n m (now (entry .entry)) (now (out .entry)) (decode 8 719 (now (s .entry))) ⌝ }
 {
     let size = n * m;
@@ -48,7 +48,7 @@ fn raise_generators(s: &mut [u8], entry: &[u32], out: &[u64], n: usize, m: usize
 }
 
 fn raise_consumers(s: &mut [u8], exit: &[u32], out: &[u64], n: usize, m: usize)
-    requires { ⌜ Raisable 623 96 mostFigure (now s) × ((length (now exit) ≡ m) × OutputLists n m (now out)) ⌝ }
+    requires { ⌜ Raisable 623 96 mostFigure (now s) × ((length (now exit) ≡ m) × BlockLists n m (now out)) ⌝ }
     ensures { λ _. ⌜ decode 8 719 (now (s .exit)) ≡ consumersRaised n m (now (exit .entry)) (now (out .entry)) (decode 8 719 (now (s .entry))) ⌝ }
 {
     let size = n * m;

@@ -32,7 +32,7 @@ use Rattle.closing_rules.specs.Closing.{charge, drawn, supplied, lapses, goneAf
 use Rattle.closing_rules.specs.ClosingOutput.{closing-length, drawn-at, charge-at, lapsed-at, bank-at, supplied-at}
 use Rattle.closing_steps.specs.Beyond.{bank-beyond, pending-beyond, charge-beyond, given-beyond, lapsed-beyond, bank-after-beyond, open-beyond, taken-beyond, supplied-beyond}
 use Rattle.closing_steps.specs.RoomLaws.{closing-output-moderate}
-use Rattle.closing_totals.specs.Totals.{monthsGone, countsAfter, totalsRaised, stocksReplaced, OutputLists, Listed}
+use Rattle.closing_totals.specs.Totals.{monthsGone, countsAfter, totalsRaised, stocksReplaced, ClosingLists, Listed}
 
 -- the first seven numbers, with other months gone and no block in the month
 counted : (xs : List ℕ) (gone : ℕ) → length xs ≡ 7 →
@@ -211,7 +211,7 @@ module _ {s out : List ℕ} (h : Listed s out) where
     unfolding figures planOf
     m-is = m-read ∙ ap (λ (t : Terms). t .consumers) (sym (terms-places (decode 8 719 s)))
 
-    pub lists-stand : OutputLists n m out
+    pub lists-stand : ClosingLists n m out
     unfolding closingLength
     lists-stand =
         record {

@@ -1,16 +1,15 @@
 -- What a closing makes of a record's numbers where they stand, by its output. Assumes nothing.
-use Prim.Native.Nat.{ℕ, _+_, _*_, _≤_}
+use Prim.Native.Nat.{ℕ, _+_, _*_}
 use mathlib.Core.Path.{_≡_}
 use mathlib.Core.List.{List}
 use lib.Dec.{eqb}
 use lib.ListN.{length, getD, set}
 use Rattle.lists.specs.Choice.{if_then_else_}
-use Rattle.arrays.specs.Bounds.{Moderate}
 use Rattle.record.specs.SoundLaws.{Facts}
 use Rattle.layout_rules.specs.OnBytes.{bookIn}
 use Rattle.layout_rules.specs.Raised.{raised, from}
 use Rattle.layout_rules.specs.Replaced.{replaced}
-use Rattle.raising.specs.Raise.{rowSum, columnSum}
+use Rattle.raising.specs.Raise.{rowSum, columnSum, OutputLists}
 use Rattle.closing_rules.specs.Closing.{closingOutput}
 
 -- months gone after the month that closes; a new cycle starts at 0
@@ -39,12 +38,9 @@ module _ (n m : ℕ) (out ws : List ℕ) where
       (replaced (from 615) n (λ g. 0)
       (replaced (from 607) n (λ g. getD out (n * m + 2 * n + g) 0) ws))
 
--- the lists of a closing of n generators and m consumers, with no number that is more than a sound record's
-pub record OutputLists (n m : ℕ) (out : List ℕ) : Type 0 where
-  pub generators-few : n ≤ 8
-  pub consumers-few : m ≤ 16
-  pub size : length out ≡ n * m + 3 * n + 2 * m
-  pub moderate : Moderate out
+-- the lists of a closing
+abbrev pub ClosingLists : (n m : ℕ) (out : List ℕ) → Type 0
+ClosingLists n m = OutputLists (n * m + 3 * n + 2 * m) n m
 
 -- the bytes s hold a sound record, and the lists of its closing stand in out
 pub record Listed (s out : List ℕ) : Type 0 where

@@ -11,7 +11,7 @@ ghost use Rattle.record.specs.Words.{words};
 ghost use Rattle.layout_rules.specs.OnBytes.{bookIn};
 ghost use Rattle.raising.specs.Raise.{Raisable};
 ghost use Rattle.closing_rules.specs.Closing.{afterClosing};
-ghost use Rattle.closing_totals.specs.Totals.{monthsGone, countsAfter, totalsRaised, stocksReplaced, OutputLists, Listed};
+ghost use Rattle.closing_totals.specs.Totals.{monthsGone, countsAfter, totalsRaised, stocksReplaced, ClosingLists, Listed};
 
 // Whether the month that closes is the last of its cycle.
 pub fn cycle_ends(gone: u64, cycle: u64) -> bool
@@ -41,7 +41,7 @@ fn start_month(s: &mut [u8])
 }
 
 fn raise_totals(s: &mut [u8], out: &[u64], n: usize, m: usize)
-    requires { ⌜ Raisable 583 136 mostFigure (now s) × OutputLists n m (now out) ⌝ }
+    requires { ⌜ Raisable 583 136 mostFigure (now s) × ClosingLists n m (now out) ⌝ }
     ensures { λ _. ⌜ decode 8 719 (now (s .exit)) ≡ totalsRaised n m (now (out .entry)) (decode 8 719 (now (s .entry))) ⌝ }
 {
     let size = n * m;
@@ -55,7 +55,7 @@ fn raise_totals(s: &mut [u8], out: &[u64], n: usize, m: usize)
 
 // The bank that is left, and nothing pending or open.
 fn replace_stocks(s: &mut [u8], out: &[u64], n: usize, m: usize)
-    requires { ⌜ (length (now s) ≡ 5752) × OutputLists n m (now out) ⌝ }
+    requires { ⌜ (length (now s) ≡ 5752) × ClosingLists n m (now out) ⌝ }
     ensures { λ _. ⌜ decode 8 719 (now (s .exit)) ≡ stocksReplaced n m (now (out .entry)) (decode 8 719 (now (s .entry))) ⌝ }
 {
     raising::replace_numbers(s, layout_rules::BANK, out, n * m + 2 * n, n);

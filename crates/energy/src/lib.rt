@@ -1,7 +1,6 @@
 // Capacity and energy, and the loss of a pair.
 // Called by this repository's crates only: what a function requires, its callers meet.
 ghost use mathlib.Core.Path.{_≡_};
-ghost use Rattle.lists.specs.Pairs.{place};
 ghost use Rattle.energy.specs.Energy.{quarterHour, portionUp, lossOn};
 ghost use Rattle.energy.specs.Requirements.{Portionable};
 

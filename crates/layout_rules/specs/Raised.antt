@@ -58,12 +58,6 @@ module _ (at f : ℕ → ℕ) (ws : List ℕ) where
       (λ (h : i < n). getD-set-other (raised at n f ws) (at n) (at i) _ 0 (apart i n h) ∙ raised-at apart n i h b)
       (eq-or-lt-of-le (omega arith))
 
--- the same by other names for what is added
-pub raised-same : (at f g : ℕ → ℕ) (ws : List ℕ) (n : ℕ) → ((i : ℕ) → i < n → f i ≡ g i) → raised at n f ws ≡ raised at n g ws
-unfolding raised
-raised-same at f g ws zero h = refl
-raised-same at f g ws (suc n) h = rw (raised-same at f g ws n (λ i l. h i (omega arith)), h n (omega arith))
-
 -- a number set elsewhere is set before or after
 raised-set : (at f : ℕ → ℕ) (ws : List ℕ) (n k v : ℕ) → ((i : ℕ) → i < n → k ≡ at i → ⊥) → raised at n f (set ws k v) ≡ set (raised at n f ws) k v
 unfolding raised
@@ -72,46 +66,6 @@ raised-set at f ws (suc n) k v h =
     let xs : List ℕ = raised at n f ws in
     let apart : k ≡ at n → ⊥ = h n (omega arith) in
     rw (raised-set at f ws n k v (λ i l. h i (omega arith)), getD-set-other xs k (at n) v 0 (λ e. apart (sym e))) (set-comm xs k (at n) v _ apart)
-
-pub raised-nothing : (at f : ℕ → ℕ) (ws : List ℕ) (n : ℕ) → ((i : ℕ) → i < n → f i ≡ 0) → raised at n f ws ≡ ws
-unfolding raised
-raised-nothing at f ws zero h = refl
-raised-nothing at f ws (suc n) h = rw (raised-nothing at f ws n (λ i l. h i (omega arith)), h n (omega arith), add-zero) (set-getD ws (at n) 0)
-
--- numbers raised again
-pub raised-twice : (p : ℕ) (f g : ℕ → ℕ) (ws : List ℕ) (n : ℕ) → p + n ≤ length ws →
-    raised (from p) n g (raised (from p) n f ws) ≡ raised (from p) n (λ i. f i + g i) ws
-unfolding raised
-raised-twice p f g ws zero h = refl
-raised-twice p f g ws (suc n) h =
-    let xs : List ℕ = raised (from p) n f ws in
-    let ys : List ℕ = raised (from p) n (λ i. f i + g i) ws in
-    let v : ℕ = getD xs (p + n) 0 + f n in
-    let apart : (i : ℕ) → i < n → p + n ≡ p + i → ⊥ = λ i l e. omega arith in
-    let again : raised (from p) n g (set xs (p + n) v) ≡ set ys (p + n) v =
-    raised-set (from p) g xs n (p + n) v apart ∙ ap (λ (zs : List ℕ). set zs (p + n) v) (raised-twice p f g ws n (omega arith)) in
-    let inside : p + n < length ys = omega (arith, length-raised (from p) (λ i. f i + g i) ws n) in
-    let number : v + g n ≡ getD ys (p + n) 0 + (f n + g n) =
-    omega (arith, raised-other (from p) f ws n (p + n) apart, raised-other (from p) (λ i. f i + g i) ws n (p + n) apart) in
-    rw (again, getD-set-same ys (p + n) v 0 inside, set-set ys (p + n) v (v + g n), number)
-
--- no number is raised by more than what is added at most
-pub raised-cap : (p n d : ℕ) (f : ℕ → ℕ) (ws : List ℕ) → p + n ≤ length ws → ((i : ℕ) → i < n → f i ≤ d) → (k : ℕ) → getD (raised (from p) n f ws) k 0 ≤ getD ws k 0 + d
-unfolding raised
-raised-cap p zero d f ws h most k = omega arith
-raised-cap p (suc n) d f ws h most k = go (raised-cap p n d f ws (omega arith) (λ i l. most i (omega arith)) k) (eqb k (p + n)) refl
-  where
-    xs : List ℕ
-    xs = raised (from p) n f ws
-
-    apart : (i : ℕ) → i < n → p + n ≡ p + i → ⊥
-    apart i l e = omega arith
-
-    go : getD xs k 0 ≤ getD ws k 0 + d → (t : Bool) → eqb k (p + n) ≡ t → getD (set xs (p + n) (getD xs (p + n) 0 + f n)) k 0 ≤ getD ws k 0 + d
-    go before true e =
-        rw (eqb-true k (p + n) e, getD-set-same xs (p + n) (getD xs (p + n) 0 + f n) 0 (omega (arith, length-raised (from p) f ws n)))
-        (omega (arith, raised-other (from p) f ws n (p + n) apart, most n (omega arith)))
-    go before false e = rw (getD-set-other xs (p + n) k (getD xs (p + n) 0 + f n) 0 (eqb-false k (p + n) e)) before
 
 -- a whole list raised, nothing being added from place n on
 pub raised-table : (k n : ℕ) (f g : ℕ → ℕ) (xs : List ℕ) → length xs ≡ k → n ≤ k → ((i : ℕ) → i < n → f i ≡ g i) → ((i : ℕ) → n ≤ i → g i ≡ 0) →

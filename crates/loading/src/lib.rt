@@ -71,7 +71,7 @@ pub fn load_counts(s: &[u8]) -> record::Counts
     }
 }
 
-fn load_agreed(s: &[u8]) -> record::Agreed
+pub fn load_agreed(s: &[u8]) -> record::Agreed
     requires { ⌜ length (now s) ≡ 5752 ⌝ }
     ensures { λ r. ⌜ r ≡ recordOf (decode 8 719 (now (s .entry))) .agreed ⌝ }
 {

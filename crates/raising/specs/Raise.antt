@@ -4,7 +4,7 @@ use mathlib.Core.Path.{_≡_}
 use mathlib.Core.List.{List}
 use lib.ListN.{length, getD}
 use Rattle.lists.specs.Sums.{sum}
-use Rattle.arrays.specs.Bounds.{mostFigure}
+use Rattle.arrays.specs.Bounds.{mostFigure, Moderate}
 use Rattle.codec.specs.Bytes.{decode}
 use Rattle.layout_rules.specs.Raised.{raised}
 use Rattle.layout_rules.specs.Replaced.{replaced}
@@ -16,6 +16,13 @@ rowSum m xs first g = sum m (λ c. getD xs (first + (g * m + c)) 0)
 
 abbrev pub columnSum : ℕ → ℕ → List ℕ → ℕ → ℕ → ℕ
 columnSum n m xs first c = sum n (λ g. getD xs (first + (g * m + c)) 0)
+
+-- the lists of a call's output for n generators and m consumers, of so many numbers, with none that is more than a sound record's
+pub record OutputLists (numbers n m : ℕ) (out : List ℕ) : Type 0 where
+  pub generators-few : n ≤ 8
+  pub consumers-few : m ≤ 16
+  pub size : length out ≡ numbers
+  pub moderate : Moderate out
 
 -- ---- numbers raised in the record's bytes
 

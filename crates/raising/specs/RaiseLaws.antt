@@ -3,15 +3,14 @@ use Prim.Native.Nat.{ℕ, _+_, _*_, _≤_, _<_}
 use mathlib.Core.Path.{_≡_, refl, sym, ap, _∙_}
 use mathlib.Core.List.{List}
 use native.Mathlib.Omega.{arith}
-use native.Mathlib.Nat.{add-assoc, mul-le-mul-right, suc-mul}
+use native.Mathlib.Nat.{mul-le-mul-right, suc-mul}
 use lib.ListN.{length, getD, set}
-use Rattle.lists.specs.Sums.{sum-none, sum-more, sum-cap}
+use Rattle.lists.specs.Sums.{sum-cap}
 use Rattle.arrays.specs.Bounds.{mostFigure, Moderate}
 use Rattle.codec.specs.Bytes.{decode}
-use Rattle.codec.specs.BytesLaws.{length-decode}
-use Rattle.layout_rules.specs.Raised.{raised, from, raised-none, raised-more, raised-other, raised-same, raised-nothing, raised-twice, raised-cap}
+use Rattle.layout_rules.specs.Raised.{from, raised-none, raised-more, raised-other}
 use Rattle.layout_rules.specs.Replaced.{replaced-none, replaced-more}
-use Rattle.raising.specs.Raise.{rowSum, columnSum, Raised, mostRaised, Raisable, Replaced}
+use Rattle.raising.specs.Raise.{rowSum, columnSum, Raised, Raisable, Replaced}
 
 module _ {at f : ℕ → ℕ} {s : List ℕ} where
   pub none-raised : Raised at 0 f s s

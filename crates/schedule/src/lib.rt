@@ -1,50 +1,75 @@
-// Giving a unit a schedule: the call's number on the display, and the record with the new schedule.
+// Giving a unit a schedule: the call's number on the display, and the new schedule in the record's bytes.
 // A function with a `requires` is called by this repository's crates only, and they meet it.
 ghost use mathlib.Core.Path.{_≡_};
-ghost use Rattle.record.specs.Sound.{sound};
-ghost use Rattle.record.specs.Stored.{figures};
-ghost use Rattle.agreement_rules.specs.Schedule.{Scheduled};
+ghost use mathlib.Core.List.{[]};
+ghost use lib.ListN.{length, getD};
+ghost use Rattle.lists.specs.Pairs.{cell, pairs};
+ghost use Rattle.codec.specs.Bytes.{encode, decode};
+ghost use Rattle.record.specs.Called.{numberOn};
+ghost use Rattle.record.specs.Stored.{stored};
+ghost use Rattle.record.specs.Words.{words, recordOf};
+ghost use Rattle.layout_rules.specs.OnBytes.{CalledOn, bookIn};
+ghost use Rattle.layout_rules.specs.Raised.{from};
 ghost use Rattle.agreement_rules.specs.Reading.{RowsAt};
-ghost use Rattle.agreement_rules.specs.Storing.{scheduleFrom};
+ghost use Rattle.agreement_rules.specs.Schedule.{afterSchedule, scheduleRule, Scheduled};
+ghost use Rattle.raising.specs.Raise.{Replaced, Replaceable};
 
-fn schedule_from(n: usize, m: usize, kws: &[u32], ranks: &[u32]) -> record::Schedule
-    requires { ⌜ RowsAt (now kws) 0 n m × RowsAt (now ranks) 0 n m ⌝ }
-    ensures { λ r. ⌜ r ≡ scheduleFrom n m (now (kws .entry)) (now (ranks .entry)) ⌝ }
+// The number of a schedule on the record that the bytes hold.
+fn refusal_on(s: &[u8], kws: &[u32], ranks: &[u32]) -> u32
+    requires { ⌜ length (now s) ≡ 5752 ⌝ }
+    ensures { λ x. ⌜ x ≡ numberOn (scheduleRule (now (kws .entry)) (now (ranks .entry))) (recordOf (decode 8 719 (now (s .entry)))) ⌝ }
 {
-    let kw = agreed_lists::spread(kws, 0, n, m);
-    let rank = agreed_lists::spread(ranks, 0, n, m);
-    record::Schedule { kw, rank }
-}
-
-// A schedule on a record whose soundness the caller has tested.
-pub fn schedule_on(r: record::Record, is_sound: bool, kws: &[u32], ranks: &[u32]) -> record::Answer
-    requires { ⌜ «is_sound» ≡ sound (figures r) ⌝ }
-    ensures { λ a. ⌜ Scheduled r (now (kws .entry)) (now (ranks .entry)) a ⌝ }
-{
-    if is_sound {
-        let terms = r.terms;
+    if soundness::is_sound(s) {
+        let terms = loading::load_terms(s);
+        let agreed = loading::load_agreed(s);
+        let link = loading::load_pairs(s, layout_rules::LINK);
         let n = terms.generators as usize;
         let m = terms.consumers as usize;
-        let agreed = r.agreed;
-        let number = schedule_refusal::refusal(agreed, &r.links.link, n, m, kws, ranks);
-        if number == 0 {
-            let new = schedule_from(n, m, kws, ranks);
-            let mut after = r;
-            after.schedule = new;
-            record::Answer { number: 0, after }
-        } else {
-            record::Answer { number, after: r }
-        }
+        schedule_refusal::refusal(agreed, &link, n, m, kws, ranks)
     } else {
-        record::Answer {
-            number: 1,
-            after: r,
-        }
+        1
     }
+}
+
+// Puts a list of n rows of m numbers into the record's pair list that starts at place `at`.
+fn put_list(s: &mut [u8], at: usize, list: &[u32], n: usize, m: usize)
+    requires { ⌜ Replaceable at 128 (now s) × RowsAt (now list) 0 n m ⌝ }
+    ensures { λ _. ⌜ Replaced (from at) 128 (λ i. getD (pairs 8 16 (cell n m (now (list .entry)))) i 0) (now (s .entry)) (now (s .exit)) ⌝ }
+{
+    let rows = agreed_lists::spread(list, 0, n, m);
+    raising::replace_numbers(s, at, &rows, 0, 128);
+}
+
+// Puts an accepted schedule in the former one's place.
+fn replace_schedule(s: &mut [u8], kws: &[u32], ranks: &[u32])
+    requires { ⌜ (length (now s) ≡ 5752) × (numberOn (scheduleRule (now kws) (now ranks)) (recordOf (decode 8 719 (now s))) ≡ 0) ⌝ }
+    ensures { λ _. ⌜ now (s .exit) ≡ encode 8 (words (stored (afterSchedule (now (kws .entry)) (now (ranks .entry)) (bookIn (now (s .entry)))))) ⌝ }
+{
+    let n = in_place::number_at(s, layout_rules::GENERATOR_COUNT) as usize;
+    let m = in_place::number_at(s, layout_rules::CONSUMER_COUNT) as usize;
+    put_list(s, layout_rules::KW, kws, n, m);
+    put_list(s, layout_rules::RANK, ranks, n, m);
+}
+
+// A schedule on the record that the bytes hold.
+pub fn schedule_on(s: &mut [u8], kws: &[u32], ranks: &[u32]) -> u32
+    requires { ⌜ length (now s) ≡ 5752 ⌝ }
+    ensures { λ r. ⌜ CalledOn (scheduleRule (now (kws .entry)) (now (ranks .entry))) (now (s .entry)) [] r (now (s .exit)) [] ⌝ }
+{
+    let number = refusal_on(s, kws, ranks);
+    if number == 0 {
+        replace_schedule(s, kws, ranks);
+        return 0;
+    }
+    number
 }
 
 pub fn schedule(r: record::Record, kws: &[u32], ranks: &[u32]) -> record::Answer
     ensures { λ a. ⌜ Scheduled r (now (kws .entry)) (now (ranks .entry)) a ⌝ }
 {
-    schedule_on(r, soundness::is_sound_record(r), kws, ranks)
+    let mut s = [0u8; 5752];
+    storing::store(r, &mut s);
+    let number = schedule_on(&mut s, kws, ranks);
+    let after = loading::load(&s);
+    record::Answer { number, after }
 }

@@ -73,10 +73,7 @@ pub extern "C" fn wheeling_schedule(record: &mut [u8], kw_list: &[u8], rank_list
         let n = host::read_input(kw_list, &mut kw);
         let mut ranks = [0u32; 129];
         let m = host::read_input(rank_list, &mut ranks);
-        let sound = soundness::is_sound(record);
-        let r = loading::load(record);
-        let a = schedule::schedule_on(r, sound, &kw[0..n], &ranks[0..m]);
-        return host::keep(a, record);
+        return schedule::schedule_on(record, &kw[0..n], &ranks[0..m]);
     }
     1
 }

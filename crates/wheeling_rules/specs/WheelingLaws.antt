@@ -178,10 +178,6 @@ module _ (G C rate cycle gone : ℕ) {xs xs′ ys ys′ : List ℕ} {n : ℕ} {r
 
 -- ---- the parts of a call on bytes
 
-pub called-in : {rule : Rule} {r r′ : Record} {lent out : List ℕ} {n : ℕ} (bytes : List ℕ) → r ≡ recordOf (decode 8 719 bytes) → Called rule r lent n r′ out → Called rule (recordIn bytes) lent n r′ out
-unfolding recordIn
-called-in {rule} {r} {r′} {lent} {out} {n} bytes e c = subst (λ (x : Record). Called rule x lent n r′ out) e c
-
 -- a call on the bytes is the call on the record that they hold, kept
 pub made : {rule : Rule} {bytes lent bytes′ out : List ℕ} {n : ℕ} → CalledOn rule bytes lent n bytes′ out → Made (λ (a : Answer). Called rule (recordIn bytes) lent (a .number) (a .after) out) bytes n bytes′
 unfolding bytesAfter

@@ -1,11 +1,7 @@
--- `wheeling::wheeling_schedule` meets its contract: schedule on the record and the numbers that the bytes hold.
-use mathlib.Core.Path.{sym, ap, _∙_}
+-- `wheeling::wheeling_schedule` meets its contract: schedule on the record and the numbers that the bytes hold. Assumes nothing.
 use borrow.Author.Needs.{needs}
-use Rattle.record.specs.Sound.{sound}
-use Rattle.record.specs.Stored.{figures}
-use Rattle.record.specs.declared.Record.{Record}
 use Rattle.wheeling_rules.specs.ReadingLaws.{lent-alike}
-use Rattle.wheeling_rules.specs.WheelingLaws.{called-in, schedule-on-bytes, on-other}
+use Rattle.wheeling_rules.specs.WheelingLaws.{made, schedule-on-bytes, on-other}
 use Rattle.wheeling.proofs.wheeling_schedule.Statement.{statement}
 use Rattle.wheeling.proofs.wheeling_schedule.Tie as tie
 
@@ -20,12 +16,6 @@ slice-aggregate-read-input-2 c = search needs
 
 read-input-requires-2 : tie.Need-read-input-requires-2
 read-input-requires-2 c κs = search needs
-
-is-sound-requires : tie.Need-is-sound-requires
-is-sound-requires c κs = c .before .before .before .before .before .before .before .if1 .taken
-
-load-requires : tie.Need-load-requires
-load-requires c κs = c .before .before .before .before .before .before .before .before .before .if1 .taken
 
 sub-schedule-on : tie.Need-sub-schedule-on
 sub-schedule-on c = search needs
@@ -46,24 +36,18 @@ part-schedule-on-end-2 : tie.Need-part-schedule-on-end-2
 part-schedule-on-end-2 c = search needs
 
 schedule-on-requires : tie.Need-schedule-on-requires
-schedule-on-requires c κs = c .before .before .before .before .before .before .is-sound .ensures ∙ ap (λ (r : Record). sound (figures r)) (sym (c .before .before .before .before .load .ensures))
-
-keep-requires : tie.Need-keep-requires
-keep-requires c κs = c .before .before .before .before .before .before .before .before .before .before .before .before .before .before .before .before .if1 .taken
+schedule-on-requires c κs = search needs
 
 same-length : tie.Need-same-length
 same-length c = search needs
 
 returns : tie.Need-returns
 returns c =
-    let kept = c .before .before in
-    let called = kept .before .before in
-    let loaded = called .before .before .before .before .before in
-    let second = loaded .before .before .before .before .before in
+    let called = c .before .before in
+    let second = called .before .before .before .before .before .before .before in
     let first = second .before .before .before in
-    let here = first .before .before in
-    schedule-on-bytes _ _ (here .if1 .taken) (lent-alike (first .read-input .ensures)) (lent-alike (second .read-input2 .ensures))
-    (called-in _ (loaded .load .ensures) (called .schedule-on .ensures)) (kept .keep .ensures)
+    let m = made (called .schedule-on .ensures) in
+    schedule-on-bytes _ _ (first .before .before .if1 .taken) (lent-alike (first .read-input .ensures)) (lent-alike (second .read-input2 .ensures)) (m .1 .0) (m .1 .1)
 
 returns-2 : tie.Need-returns-2
 returns-2 c = on-other (c .if1 .left)
@@ -76,8 +60,6 @@ wheeling-schedule-spec =
     read-input-requires
     slice-aggregate-read-input-2
     read-input-requires-2
-    is-sound-requires
-    load-requires
     sub-schedule-on
     part-schedule-on-start
     part-schedule-on-end
@@ -85,7 +67,6 @@ wheeling-schedule-spec =
     part-schedule-on-start-2
     part-schedule-on-end-2
     schedule-on-requires
-    keep-requires
     same-length
     returns
     returns-2)

@@ -1,0 +1,52 @@
+-- `schedule::refusal_on` meets its contract: the number on the display, refusal 1 first. Assumes nothing.
+use mathlib.Core.Bool.{true}
+use mathlib.Core.Path.{_≡_, sym, _∙_}
+use borrow.Author.Needs.{needs}
+use Rattle.codec.specs.Bytes.{decode}
+use Rattle.record.specs.CalledLaws.{number-unsound, terms-few}
+use Rattle.record.specs.Sound.{sound}
+use Rattle.record.specs.Stored.{figures}
+use Rattle.record.specs.Words.{recordOf}
+use Rattle.schedule.specs.Entered.{number-read}
+use Rattle.schedule.proofs.refusal_on.Statement.{statement}
+use Rattle.schedule.proofs.refusal_on.Tie as tie
+
+is-sound-requires : tie.Need-is-sound-requires
+is-sound-requires c κs = search needs
+
+passed : (c : tie.Then1) → sound (figures (recordOf (decode 8 719 (c .before .before .before .before .before .args .s .now)))) ≡ true
+passed c = sym (c .before .is-sound .ensures) ∙ c .if1 .taken
+
+load-terms-requires : tie.Need-load-terms-requires
+load-terms-requires c κs = search needs
+
+load-agreed-requires : tie.Need-load-agreed-requires
+load-agreed-requires c κs = search needs
+
+load-pairs-requires : tie.Need-load-pairs-requires
+load-pairs-requires c κs = search needs
+
+refusal-requires : tie.Need-refusal-requires
+refusal-requires c κs = let terms = c .before .before .before in terms-few _ (terms .load-terms .ensures) (passed (terms .before))
+
+returns : tie.Need-returns
+returns c =
+    let pairs = c .before .before in
+    let agreed = pairs .before in
+    let terms = agreed .before in
+    number-read _ _ _ (passed (terms .before)) (terms .load-terms .ensures) (agreed .load-agreed .ensures) (pairs .load-pairs .ensures) (c .refusal .ensures)
+
+returns-2 : tie.Need-returns-2
+returns-2 c = sym (number-unsound _ _ (sym (c .before .is-sound .ensures) ∙ c .if1 .left))
+
+pub refusal-on-spec : {M : Type 1} → statement M
+refusal-on-spec =
+    tie.close
+    (tie.spec
+    is-sound-requires
+    load-terms-requires
+    load-agreed-requires
+    load-pairs-requires
+    refusal-requires
+    returns
+    returns-2)
