@@ -1,6 +1,6 @@
 -- An opening is accepted where it is permitted and nowhere else, and what it gives is sound. Assumes nothing.
-use Prim.Native.Nat.{ℕ, _+_, _-_, _*_, _≤_, _<_, min}
-use mathlib.Core.Path.{_≡_, refl, sym, ap, _∙_, subst}
+use Prim.Native.Nat.{ℕ, _*_, _≤_, _<_}
+use mathlib.Core.Path.{_≡_, refl, sym, ap}
 use mathlib.Core.Bool.{Bool, true, false, _&&_, _||_, not, false≢true}
 use mathlib.Core.List.{List, [], _∷_}
 use mathlib.Core.Logic.{_⊎_, inl, inr, ⊎-elim}
@@ -9,15 +9,14 @@ use borrow.Author.Tests.{eqb-true, eq-eqb, ltb-true, ltb-false, leb-true, le-leb
 use lib.Dec.{eqb, leb, ltb}
 use lib.ListN.{length, take, drop}
 use Rattle.lists.specs.Choice.{if_then_else_}
-use Rattle.lists.specs.Sums.{sum, sum-zero}
+use Rattle.lists.specs.Sums.{sum-zero}
 use Rattle.lists.specs.Tests.{some, within, some-none, or-left, or-right, chain-at, and-both, some-never, within-low, within-high, within-from}
 use Rattle.lists.specs.Pairs.{cell}
 use Rattle.lists.specs.PairsLaws.{cell-out, cell-all}
-use Rattle.lists.specs.Refusals.{firstOf, first-head, first-tail, first-none, first-end, first-or}
+use Rattle.lists.specs.Refusals.{first-head, first-tail, first-none, first-end, first-or}
 use Rattle.energy.specs.Limits.{mostGenerators, mostConsumers, lastKind, mostCapacity, mostLoss, mostRate, mostCycle}
-use Rattle.delivery_rules.specs.Plan.{Plan, scheduled}
-use Rattle.record.specs.Book.{Book, noInjection, noConsumption}
-use Rattle.record.specs.SoundLaws.{Facts, CountsFacts, AgreedFacts, PairFacts, no-injection, no-consumption}
+use Rattle.delivery_rules.specs.Plan.{scheduled}
+use Rattle.record.specs.SoundLaws.{Facts, AgreedFacts, PairFacts, no-injection, no-consumption}
 use Rattle.agreement_rules.specs.Opening.{Opening, kindOf, installedOf, contractedOf, linkOf, rateOfLoss, openingRefusal, opened, Permitted}
 
 module _ (o : Opening) where

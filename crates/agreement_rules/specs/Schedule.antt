@@ -1,6 +1,6 @@
 -- Document 01, "Schedule": refusals 7 to 9. Assumes nothing.
 use Prim.Native.Nat.{ℕ, _*_, min}
-use mathlib.Core.Bool.{Bool, _&&_, _||_, not}
+use mathlib.Core.Bool.{_&&_, not}
 use mathlib.Core.List.{List, [], _∷_}
 use lib.Dec.{eqb, ltb}
 use lib.ListN.{length}
@@ -9,7 +9,6 @@ use Rattle.lists.specs.Tests.{some, within}
 use Rattle.lists.specs.Pairs.{cell}
 use Rattle.lists.specs.Refusals.{firstOf}
 use Rattle.energy.specs.Limits.{mostRank}
-use Rattle.delivery_rules.specs.Plan.{Plan}
 use Rattle.record.specs.Book.{Book}
 use Rattle.record.specs.Called.{Rule, Called}
 use Rattle.record.specs.declared.Record.{Record}

@@ -1,23 +1,20 @@
 -- An accepted schedule keeps soundness. Assumes nothing.
 use Prim.Native.Nat.{ℕ, _*_, _≤_, _<_, min}
-use mathlib.Core.Path.{_≡_, refl, sym, ap, _∙_}
+use mathlib.Core.Path.{_≡_, refl, sym, _∙_}
 use mathlib.Core.Bool.{Bool, true, false, _&&_, not, false≢true, true≢false}
-use mathlib.Core.List.{List, [], _∷_}
+use mathlib.Core.List.{List}
 use mathlib.Core.Logic.{_⊎_, inl, inr, ⊎-elim}
 use native.Mathlib.Omega.{arith}
-use borrow.Author.Tests.{eqb-true, eq-eqb, ltb-true, ltb-false, le-ltb, lt-ltb, not-false}
+use borrow.Author.Tests.{eqb-true, eq-eqb, ltb-true, ltb-false, not-false}
 use lib.Dec.{eqb, ltb}
 use lib.ListN.{length}
-use Rattle.lists.specs.Choice.{if_then_else_}
 use Rattle.lists.specs.Sums.{sum, sum-zero}
 use Rattle.lists.specs.Tests.{some, within, some-none, and-left, and-right, within-low, within-high}
-use Rattle.lists.specs.Pairs.{cell}
-use Rattle.lists.specs.PairsLaws.{cell-out, cell-all}
-use Rattle.lists.specs.Refusals.{firstOf, first-head, first-tail, first-or}
+use Rattle.lists.specs.PairsLaws.{cell-out}
+use Rattle.lists.specs.Refusals.{first-head, first-tail, first-or}
 use Rattle.energy.specs.Limits.{mostRank}
-use Rattle.delivery_rules.specs.Plan.{Plan, scheduled}
+use Rattle.delivery_rules.specs.Plan.{scheduled}
 use Rattle.record.specs.Book.{Book}
-use Rattle.record.specs.Called.{Rule}
 use Rattle.record.specs.CalledLaws.{Keeps}
 use Rattle.record.specs.SoundLaws.{Facts, AgreedFacts, PairFacts, pair-beyond}
 use Rattle.agreement_rules.specs.Schedule.{newKw, newRank, scheduleRefusal, afterSchedule, scheduleRule}

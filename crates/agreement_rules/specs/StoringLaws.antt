@@ -1,19 +1,13 @@
 -- A record made of its parts is the one that the rules store. Assumes nothing.
 use Prim.Native.Nat.{ℕ, _*_, _≤_}
 use mathlib.Core.Path.{_≡_, refl, sym, ap, _∙_}
-use mathlib.Core.List.{List, []}
-use mathlib.Core.Bool.{true, false}
-use native.Mathlib.Omega.{arith}
-use lib.ListN.{length, drop, replicate}
+use mathlib.Core.List.{List}
+use lib.ListN.{drop, replicate}
 use borrow.Author.Tests.{eq-eqb, ne-eqb}
-use Rattle.lists.specs.Tables.{table, is-table}
-use Rattle.lists.specs.Pairs.{place, cell, pairs}
-use Rattle.lists.specs.PairsLaws.{place-in}
+use Rattle.lists.specs.Tables.{table}
+use Rattle.lists.specs.Pairs.{cell, pairs}
 use Rattle.record.specs.Book.{noInjection, noConsumption}
-use Rattle.record.specs.Stored.{generatorAt, consumerAt, planOf, figures, storedGenerators, storedConsumers, stored, zeros}
-use Rattle.record.specs.Sound.{sound}
-use Rattle.record.specs.Called.{numberOn, Called}
-use Rattle.record.specs.CalledLaws.{number-unsound, number-sound, record-accepted, record-refused, output-accepted, output-refused}
+use Rattle.record.specs.Stored.{planOf, figures, storedGenerators, storedConsumers, stored, zeros}
 use Rattle.record.specs.Shape.{Shape, table-place, pairs-cell, generators-kept, consumers-kept}
 use Rattle.record.specs.declared.Agreed.{Agreed}
 use Rattle.record.specs.declared.Links.{Links}
@@ -22,7 +16,7 @@ use Rattle.record.specs.declared.Generators.{Generators}
 use Rattle.record.specs.declared.Consumers.{Consumers}
 use Rattle.record.specs.declared.Record.{Record}
 use Rattle.agreement_rules.specs.Opening.{Opening, kindOf, installedOf, contractedOf, linkOf, rateOfLoss, openingRefusal, opened, Opened}
-use Rattle.agreement_rules.specs.Schedule.{newKw, newRank, scheduleRefusal, afterSchedule, scheduleRule}
+use Rattle.agreement_rules.specs.Schedule.{newKw, newRank, afterSchedule}
 use Rattle.agreement_rules.specs.ReadingLaws.{cell-drop-none, cell-take, cell-ones}
 use Rattle.agreement_rules.specs.Refusing.{asked}
 use Rattle.agreement_rules.specs.Storing.{agreedFrom, linksFrom, firstSchedule, scheduleFrom, withSchedule}

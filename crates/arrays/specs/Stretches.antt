@@ -1,15 +1,15 @@
 -- Lists that stand one after the other in a slice, told place by place. Assumes nothing.
-use Prim.Native.Nat.{ℕ, zero, suc, _+_, _*_, _/_, _%_, _≤_, _<_}
+use Prim.Native.Nat.{ℕ, _+_, _*_, _/_, _%_, _≤_, _<_}
 use mathlib.Core.Path.{_≡_, refl, sym, ap, ap₂, _∙_}
 use mathlib.Core.List.{List, [], _∷_, _++_}
-use mathlib.Core.Logic.{_⊎_, ⊎-elim}
+use mathlib.Core.Logic.{⊎-elim}
 use native.Mathlib.Omega.{arith}
 use native.Mathlib.Nat.{div-lt-iff-lt-mul, mod-lt, div-add-mod', eq-zero-or-pos, mul-zero}
 use lib.ListN.{length, getD, take, drop, length-drop, take-append-drop}
 use lib.Seq.{drop-drop, getD-take, getD-drop, length-take-le, drop-length}
-use Rattle.lists.specs.Tables.{table, is-table, length-table, getD-table}
+use Rattle.lists.specs.Tables.{is-table}
 use Rattle.lists.specs.Pairs.{pairs, joined}
-use Rattle.lists.specs.PairsLaws.{pairs-table, length-pairs, getD-pairs}
+use Rattle.lists.specs.PairsLaws.{pairs-table}
 
 -- a list with the right number in each place
 pub pairs-is : (n w : ℕ) (f : ℕ → ℕ → ℕ) (xs : List ℕ) → length xs ≡ n * w → ((g c : ℕ) → g < n → c < w → getD xs (g * w + c) 0 ≡ f g c) → xs ≡ pairs n w f

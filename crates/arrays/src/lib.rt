@@ -4,7 +4,7 @@ ghost use mathlib.Core.Path.{_≡_};
 ghost use Prim.Native.Nat.{_+_, _*_, _<_, _≤_};
 ghost use lib.ListN.{length, getD};
 ghost use Rattle.lists.specs.Tables.{table};
-ghost use Rattle.lists.specs.Pairs.{place, cell, pairs};
+ghost use Rattle.lists.specs.Pairs.{cell, pairs};
 ghost use Rattle.arrays.specs.Put.{Put};
 
 // Fills `out` with the first numbers of `xs`.

@@ -2,14 +2,13 @@
 use Prim.Native.Nat.{ℕ, _+_, _-_, _≤_, _<_}
 use mathlib.Core.Bool.{Bool}
 use mathlib.Core.List.{List}
-use mathlib.Core.Path.{_≡_}
 use Rattle.lists.specs.Choice.{if_then_else_}
 use Rattle.lists.specs.Tables.{table}
 use Rattle.lists.specs.Pairs.{place, cell, pairs}
 use Rattle.energy.specs.Energy.{portionUp}
 use Rattle.energy.specs.Limits.{mostRate}
 use Rattle.order_rules.specs.Settle.{given, kept, unmet}
-use Rattle.delivery_rules.specs.Plan.{Plan, suppliers}
+use Rattle.delivery_rules.specs.Plan.{Plan}
 use Rattle.closing_rules.specs.Drawing.{stockAt, drawnAt, missingAt}
 use Rattle.bank.specs.declared.Bank.{Bank}
 use Rattle.bank.specs.declared.Credit.{Credit}

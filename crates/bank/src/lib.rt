@@ -3,7 +3,6 @@
 ghost use mathlib.Core.Path.{_≡_};
 ghost use Prim.Native.Nat.{ℕ, _<_, _≤_};
 ghost use lib.Dec.{eqb};
-ghost use lib.ListN.{length};
 ghost use Rattle.lists.specs.Pairs.{cell};
 ghost use Rattle.energy.specs.Limits.{mostRank};
 ghost use Rattle.order_rules.specs.Order.{inOrder, only};

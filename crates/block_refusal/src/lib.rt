@@ -2,7 +2,6 @@
 // Called by this repository's crates only: what a function requires, its callers meet.
 ghost use mathlib.Core.Path.{_≡_};
 ghost use Prim.Native.Nat.{_≤_};
-ghost use lib.ListN.{length};
 ghost use Rattle.block_rules.specs.Refusals.{overLimit, ownRefusal};
 use record::Counts;
 

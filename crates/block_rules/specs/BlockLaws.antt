@@ -1,29 +1,25 @@
 -- An accepted block keeps soundness and the cross totals, and its output has the stated length. Assumes nothing.
-use Prim.Native.Nat.{ℕ, _+_, _*_, _≤_, _<_, min}
-use mathlib.Core.Path.{_≡_, refl, sym, ap, _∙_}
-use mathlib.Core.Bool.{Bool, true, false, _&&_, _||_, not}
+use Prim.Native.Nat.{ℕ, _+_, _≤_, _<_}
+use mathlib.Core.Path.{_≡_, refl}
+use mathlib.Core.Bool.{Bool, true, false, _&&_, _||_}
 use mathlib.Core.List.{List, [], _∷_}
 use mathlib.Core.Logic.{_⊎_, inl, inr, ⊎-elim}
 use native.Mathlib.Omega.{arith}
 use borrow.Author.Tests.{eqb-true, ltb-true, ltb-false, leb-false, not-false}
-use lib.Dec.{eqb, leb, ltb}
-use lib.ListN.{length, length-append}
+use lib.Dec.{eqb, ltb}
+use lib.ListN.{length}
 use Rattle.lists.specs.Choice.{if_then_else_}
 use Rattle.lists.specs.Sums.{sum, sum-both-ways}
-use Rattle.lists.specs.Tables.{length-table}
 use Rattle.lists.specs.Tests.{some, some-none, or-left, or-right, chain-at}
-use Rattle.lists.specs.Pairs.{place, pairs, joined}
-use Rattle.lists.specs.PairsLaws.{place-out, place-in, length-pairs}
-use Rattle.lists.specs.Refusals.{firstOf, first-head, first-tail, first-or}
+use Rattle.lists.specs.PairsLaws.{place-out}
+use Rattle.lists.specs.Refusals.{first-head, first-tail, first-or}
 use Rattle.energy.specs.Limits.{mostReading, mostMonthBlocks, mostUnitBlocks}
-use Rattle.delivery_rules.specs.Plan.{Plan, deemed}
-use Rattle.delivery_rules.specs.Delivery.{unaccounted, lossOf}
-use Rattle.settlement_rules.specs.Settlement.{setOff, underdrawn, shortfall, remainder, blockLists, blockOutput}
+use Rattle.delivery_rules.specs.Plan.{deemed}
+use Rattle.settlement_rules.specs.Settlement.{setOff, underdrawn}
 use Rattle.settlement_rules.specs.SettlementLaws.{entry-split, exit-split}
-use Rattle.record.specs.Book.{Book, splitOfInjected, splitOfMetered}
-use Rattle.record.specs.Called.{Rule}
+use Rattle.record.specs.Book.{Book}
 use Rattle.record.specs.CalledLaws.{Keeps}
-use Rattle.record.specs.SoundLaws.{Facts, CountsFacts, GeneratorFacts, ConsumerFacts}
+use Rattle.record.specs.SoundLaws.{Facts, GeneratorFacts, ConsumerFacts}
 use Rattle.block_rules.specs.Block.{generatorAfterBlock, consumerAfterBlock, afterBlock, blockLength, entryOf, exitOf, blockRefusal, blockRule}
 
 -- a block to which no number applies

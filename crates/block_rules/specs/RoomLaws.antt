@@ -1,24 +1,19 @@
 -- A block's sums fit 64 bits on a sound record. Assumes nothing.
-use Prim.Native.Nat.{ℕ, _+_, _-_, _*_, _/_, _%_, _≤_, _<_}
-use mathlib.Core.Path.{_≡_, refl, sym, ap, _∙_}
+use Prim.Native.Nat.{ℕ, _-_, _*_, _≤_, _<_}
+use mathlib.Core.Path.{_≡_}
 use mathlib.Core.Bool.{Bool, true, false}
-use mathlib.Core.List.{List}
 use mathlib.Core.Logic.{⊎-elim}
 use native.Mathlib.Omega.{arith}
 use native.Mathlib.Nat.{mul-le-mul, mul-le-mul-left, mul-one, eq-zero-or-pos, le-trans}
-use lib.ListN.{getD}
 use Rattle.lists.specs.Choice.{if_then_else_}
-use Rattle.lists.specs.Sums.{sum, sum-part}
-use Rattle.lists.specs.Tables.{table, table-bound}
-use Rattle.lists.specs.Pairs.{place, cell, pairs}
-use Rattle.lists.specs.PairsLaws.{pairs-table}
-use Rattle.energy.specs.Limits.{mostReading, mostCapacity}
+use Rattle.lists.specs.Sums.{sum}
+use Rattle.energy.specs.Limits.{mostReading}
 use Rattle.energy.specs.Energy.{quarterHour, lossOn}
 use Rattle.sharing.specs.Share.{part}
 use Rattle.sharing.specs.ShareLaws.{part-none, part-le}
 use Rattle.arrays.specs.Bounds.{mostFigure, Moderate}
 use Rattle.arrays.specs.BoundsLaws.{moderate-table, moderate-rows, no-more, and-then, moderate-joined}
-use Rattle.delivery_rules.specs.Plan.{Plan, deemed}
+use Rattle.delivery_rules.specs.Plan.{deemed}
 use Rattle.delivery_rules.specs.Delivery.{counted, unaccounted, partOf, lossOf, delivered, atExit}
 use Rattle.delivery_rules.specs.DeliveryLaws.{counted-le, lossOf-le}
 use Rattle.settlement_rules.specs.Settlement.{setOff, underdrawn, shortfall, remainder, blockLists, blockOutput}

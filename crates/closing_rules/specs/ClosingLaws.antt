@@ -1,7 +1,7 @@
 -- Laws of a closing: every subtraction is exact, what it takes it enters elsewhere, it keeps soundness and the cross totals, and
 -- no linked pair is left with bank before the lapse beside energy supplied. Assumes nothing.
-use Prim.Native.Nat.{ℕ, suc, _+_, _-_, _*_, _≤_, _<_}
-use mathlib.Core.Path.{_≡_, refl, sym, ap, _∙_}
+use Prim.Native.Nat.{ℕ, suc, _+_, _-_, _≤_, _<_}
+use mathlib.Core.Path.{_≡_, refl}
 use mathlib.Core.Bool.{Bool, true, false}
 use mathlib.Core.Logic.{_⊎_, inl, inr, ⊎-elim}
 use native.Mathlib.Omega.{arith}
@@ -11,18 +11,15 @@ use lib.Dec.{eqb, ltb}
 use Rattle.lists.specs.Choice.{if_then_else_}
 use Rattle.lists.specs.Sums.{sum, sum-cong, sum-falls, sum-both-ways, never-rises}
 use Rattle.lists.specs.Refusals.{firstOf, first-or}
-use Rattle.energy.specs.Energy.{portionUp}
 use Rattle.energy.specs.EnergyLaws.{portion-le}
 use Rattle.order_rules.specs.Members.{In, order-in, only-in}
 use Rattle.order_rules.specs.OrderLaws.{Ahead, order-sorted, only-sorted}
-use Rattle.order_rules.specs.Settle.{given, kept, unmet}
 use Rattle.order_rules.specs.SettleLaws.{given-sum, given-le, given-all, kept-is, earlier-first}
-use Rattle.delivery_rules.specs.Plan.{Plan, order, suppliers}
+use Rattle.delivery_rules.specs.Plan.{order, suppliers}
 use Rattle.delivery_rules.specs.DeliveryLaws.{suppliers-within}
 use Rattle.record.specs.Book.{Book}
-use Rattle.record.specs.Called.{Rule}
 use Rattle.record.specs.CalledLaws.{Keeps}
-use Rattle.record.specs.SoundLaws.{Facts, CountsFacts, GeneratorFacts, ConsumerFacts}
+use Rattle.record.specs.SoundLaws.{Facts, GeneratorFacts, ConsumerFacts}
 use Rattle.closing_rules.specs.Drawing.{stockAt, drawnAt, missingAt}
 use Rattle.closing_rules.specs.Closing.{takenUp, charge, credited, banks, drawn, supplied, lapses, goneAfter, bankBeforeLapse, lapsed, bankAfter, generatorAfterClosing, consumerAfterClosing, afterClosing, closingLength, closingRefusal, closingRule}
 

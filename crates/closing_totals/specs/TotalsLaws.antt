@@ -2,7 +2,7 @@
 use Prim.Native.Nat.{ℕ, _+_, _*_}
 use mathlib.Core.Path.{_≡_, _∙_}
 use mathlib.Core.List.{List}
-use lib.ListN.{length, getD}
+use lib.ListN.{getD}
 use Rattle.codec.specs.Bytes.{decode}
 use Rattle.layout_rules.specs.Raised.{from}
 use Rattle.raising.specs.Raise.{rowSum, columnSum, Raised, Replaced}

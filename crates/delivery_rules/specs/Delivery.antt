@@ -1,6 +1,5 @@
 -- Document 01, "Block": rules 1 to 4, what the entry reading of one generator delivers. Assumes nothing.
 use Prim.Native.Nat.{ℕ, _-_, min}
-use mathlib.Core.Bool.{Bool}
 use lib.Dec.{eqb}
 use Rattle.lists.specs.Choice.{if_then_else_}
 use Rattle.energy.specs.Energy.{quarterHour, lossOn}

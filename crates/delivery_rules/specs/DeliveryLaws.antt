@@ -1,5 +1,5 @@
 -- Laws of rules 1 to 4: every subtraction is exact, and the parts of a generator add up to what counts. Assumes nothing.
-use Prim.Native.Nat.{ℕ, _+_, _-_, _*_, _≤_, _<_, min}
+use Prim.Native.Nat.{ℕ, _-_, _*_, _≤_, _<_, min}
 use mathlib.Core.Path.{_≡_, refl, sym, ap, _∙_}
 use mathlib.Core.Bool.{Bool, true, false}
 use mathlib.Core.Logic.{⊎-elim}
@@ -15,7 +15,7 @@ use Rattle.sharing.specs.Share.{part}
 use Rattle.sharing.specs.ShareLaws.{parts-sum, part-none, part-le}
 use Rattle.order_rules.specs.Members.{Below, order-below, only-below}
 use Rattle.delivery_rules.specs.Plan.{Plan, deemed, scheduled, order, suppliers}
-use Rattle.delivery_rules.specs.Delivery.{counted, unaccounted, partOf, lossOf, delivered, atExit}
+use Rattle.delivery_rules.specs.Delivery.{counted, partOf, lossOf, delivered, atExit}
 
 -- ---- the order
 

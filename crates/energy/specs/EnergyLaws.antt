@@ -1,6 +1,6 @@
 -- Laws of portions and of the loss. Callers know the loss by these three only: it is at most the whole, and what it leaves never
 -- falls as the energy rises, and rises by at most 1 Wh for each Wh. Assumes nothing.
-use Prim.Native.Nat.{ℕ, _+_, _-_, _*_, _/_, _≤_}
+use Prim.Native.Nat.{ℕ, _+_, _-_, _*_, _≤_}
 use mathlib.Core.Path.{_≡_, sym, ap, _∙_}
 use native.Mathlib.Omega.{arith}
 use native.Mathlib.Nat.{mul-le-mul-left, add-mul}

@@ -1,6 +1,5 @@
 -- What callers of this crate's functions have to show. Assumes nothing.
 use Prim.Native.Nat.{ℕ, _*_, _≤_}
-use Rattle.lists.specs.Pairs.{place}
 use Rattle.energy.specs.Limits.{mostReading, mostUnitBlocks, mostRate}
 
 -- An energy and a rate whose product fits 64 bits: at most what one place meters in the life of a unit, 2,000,000,000,000,000 Wh.

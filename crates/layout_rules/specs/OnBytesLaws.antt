@@ -5,11 +5,10 @@ use mathlib.Core.Path.{_≡_, refl, sym, ap, _∙_, subst}
 use mathlib.Core.Bool.{Bool, true, false}
 use borrow.Author.Tests.{eqb-true, eqb-false, eq-eqb, ne-eqb}
 use lib.Dec.{eqb}
-use Rattle.lists.specs.Choice.{if_then_else_}
-use Rattle.codec.specs.Bytes.{encode, decode}
-use Rattle.record.specs.Words.{words, recordOf}
+use Rattle.codec.specs.Bytes.{encode}
+use Rattle.record.specs.Words.{words}
 use Rattle.record.specs.Stored.{figures, stored}
-use Rattle.record.specs.Called.{Rule, numberOn, recordAfter, outputAfter, Called}
+use Rattle.record.specs.Called.{Rule, numberOn, recordAfter, Called}
 use Rattle.record.specs.CalledLaws.{Keeps, accepted-sound, number-sound, record-facts, record-accepted, record-refused, output-accepted, output-refused}
 use Rattle.record.specs.declared.Record.{Record}
 use Rattle.layout_rules.specs.OnBytes.{recordIn, bytesAfter, CalledOn}

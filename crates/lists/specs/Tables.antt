@@ -6,8 +6,8 @@ use Prim.Native.Nat.{ℕ, zero, suc, _+_, _-_, _≤_, _<_}
 use native.Mathlib.Numerals.{add-one}
 use native.Mathlib.Nat.{eq-or-lt-of-le, eq-zero-or-pos}
 use native.Mathlib.Omega.{arith}
-use lib.ListN.{length, take, drop, set, getD, length-append, length-drop, List·getD-append, List·getD-eq-default, drop-of-length-le, replicate, length-replicate, getD-replicate}
-use lib.Seq.{ext-getD, getD-at, getD-append-add, getD-drop, drop-cons, set-at, getD-set-same, getD-set-other}
+use lib.ListN.{length, drop, set, getD, length-append, length-drop, List·getD-append, List·getD-eq-default, drop-of-length-le, replicate, getD-replicate}
+use lib.Seq.{ext-getD, getD-at, getD-append-add, getD-drop, drop-cons, set-at}
 
 -- the list f 0, f 1, .., f (n - 1)
 unfoldable pub table : {A : Type 0} → ℕ → (ℕ → A) → List A

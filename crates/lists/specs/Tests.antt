@@ -1,16 +1,15 @@
 -- Tests: of every place of n, of some place of n, and the laws by which a loop of tests is proved. Assumes nothing.
-use mathlib.Core.Path.{_≡_, _∙_, refl, ap, sym, subst}
-use mathlib.Core.Bool.{Bool, true, false, _&&_, _||_, not, false≢true, true≢false}
+use mathlib.Core.Path.{_≡_, _∙_, refl, ap}
+use mathlib.Core.Bool.{Bool, true, false, _&&_, _||_, false≢true, true≢false}
 use mathlib.Core.List.{List, [], _∷_}
 use mathlib.Core.Logic.{⊎-elim}
 use Prim.Native.Nat.{ℕ, zero, suc, _+_, _*_, _≤_, _<_}
 use native.Mathlib.Nat.{eq-or-lt-of-le, add-suc, add-zero, suc-mul, zero-mul}
 use native.Mathlib.Numerals.{add-one}
 use native.Mathlib.Omega.{arith}
-use borrow.Author.Tests.{leb-true, leb-false, ltb-false, le-leb, lt-ltb}
-use lib.Dec.{leb, ltb}
+use borrow.Author.Tests.{leb-true, le-leb}
+use lib.Dec.{leb}
 use lib.ListN.{getD, List·getD-eq-default}
-use Rattle.lists.specs.Choice.{if_then_else_}
 
 -- p holds of each of 0, …, n - 1
 unfoldable pub all : ℕ → (ℕ → Bool) → Bool

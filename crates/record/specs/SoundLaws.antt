@@ -1,17 +1,17 @@
 -- From the test of soundness to facts, and back. Assumes nothing.
-use Prim.Native.Nat.{ℕ, _+_, _*_, _≤_, _<_, min}
-use mathlib.Core.Path.{_≡_, refl, _∙_, sym, ap, subst}
+use Prim.Native.Nat.{ℕ, _*_, _≤_, _<_, min}
+use mathlib.Core.Path.{_≡_, refl, _∙_, sym, subst}
 use mathlib.Core.Bool.{Bool, true, false, _&&_, _||_, false≢true}
-use mathlib.Core.List.{List, [], _∷_}
+use mathlib.Core.List.{[], _∷_}
 use mathlib.Core.Logic.{_⊎_, inl, inr}
 use native.Mathlib.Omega.{arith}
 use lib.Dec.{eqb, leb, ltb}
 use lib.ListN.{getD}
-use borrow.Author.Tests.{leb-true, eqb-true, eqb-false, ltb-true, ltb-false, le-leb, lt-ltb, le-ltb, eq-eqb, ne-eqb}
-use Rattle.lists.specs.Sums.{sum, sum-zero, sum-part}
+use borrow.Author.Tests.{leb-true, eqb-true, eqb-false, ltb-true, ltb-false, le-leb, lt-ltb, le-ltb, eq-eqb}
+use Rattle.lists.specs.Sums.{sum-zero, sum-part}
 use Rattle.lists.specs.Tests.{all, within, all-at, all-from, and-left, and-right, and-both, chain-at, within-low, within-high, within-from}
 use Rattle.energy.specs.Limits.{mostGenerators, mostConsumers, lastKind, mostCapacity, mostLoss, mostRate, mostCycle, mostRank, mostReading, mostMonthBlocks, mostUnitBlocks}
-use Rattle.delivery_rules.specs.Plan.{Plan, scheduled}
+use Rattle.delivery_rules.specs.Plan.{scheduled}
 use Rattle.record.specs.Book.{Book, splitOfInjected, splitOfMetered, noInjection, noConsumption}
 use Rattle.record.specs.Sound.{limit, countsSound, agreedSound, pairSound, generatorSound, consumerSound, sound}
 use Rattle.record.specs.declared.GeneratorTerms.{GeneratorTerms}

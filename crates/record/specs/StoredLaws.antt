@@ -1,11 +1,10 @@
 -- A record's figures and the record stored of figures are each other's inverse. Assumes nothing.
-use Prim.Native.Nat.{ℕ, _≤_, _<_}
-use mathlib.Core.Path.{_≡_, refl, sym, ap, _∙_}
-use mathlib.Core.Bool.{Bool, true, false}
-use mathlib.Core.Logic.{_⊎_, inl, inr}
+use Prim.Native.Nat.{ℕ, _≤_}
+use mathlib.Core.Path.{_≡_, refl, ap, _∙_}
+use mathlib.Core.Bool.{false}
 use Rattle.lists.specs.Tables.{table}
-use Rattle.lists.specs.Tests.{all, within}
-use Rattle.lists.specs.Pairs.{place, cell, pairs}
+use Rattle.lists.specs.Tests.{within}
+use Rattle.lists.specs.Pairs.{place}
 use Rattle.lists.specs.PairsLaws.{place-out, cell-out, place-table, cell-pairs}
 use Rattle.record.specs.Book.{Book, noInjection, noConsumption}
 use Rattle.record.specs.Stored.{generatorAt, consumerAt, planOf, figures, storedGenerators, storedConsumers, stored, zeros}

@@ -1,9 +1,9 @@
 -- The record's numbers are 719, and a stored record is read back from them. Assumes nothing.
-use Prim.Native.Nat.{ℕ, zero, suc, _+_, _<_}
+use Prim.Native.Nat.{ℕ, _<_}
 use mathlib.Core.Path.{_≡_, refl, ap, _∙_}
-use mathlib.Core.List.{List, [], _∷_, _++_}
+use mathlib.Core.List.{List, [], _∷_}
 use native.Mathlib.Omega.{arith}
-use lib.ListN.{length, getD, take, drop, length-append}
+use lib.ListN.{length, length-append}
 use lib.Seq.{take-at, drop-at}
 use Rattle.lists.specs.Tables.{table, length-table, getD-table, table-same}
 use Rattle.lists.specs.Pairs.{place, cell, pairs, joined}
@@ -11,8 +11,6 @@ use Rattle.lists.specs.PairsLaws.{length-pairs, getD-pairs, cell-in, place-in}
 use Rattle.record.specs.Book.{Book}
 use Rattle.record.specs.Stored.{stored, storedGenerators, storedConsumers}
 use Rattle.record.specs.Words.{agreedOf, runs, runLengths, total, wordCount, words, cut, fromRuns, recordOf}
-use Rattle.record.specs.declared.Agreed.{Agreed}
-use Rattle.record.specs.declared.Record.{Record}
 
 pub words-719 : wordCount ≡ 719
 unfolding wordCount total runLengths

@@ -1,5 +1,5 @@
 -- A schedule on the record that bytes hold: its number, and its lists in the former ones' place. Assumes nothing.
-use Prim.Native.Nat.{ℕ, _+_, _*_}
+use Prim.Native.Nat.{ℕ, _*_}
 use mathlib.Core.Path.{_≡_, refl, sym, ap, _∙_}
 use mathlib.Core.Bool.{true}
 use mathlib.Core.List.{List, []}
@@ -14,7 +14,6 @@ use Rattle.record.specs.Called.{numberOn}
 use Rattle.record.specs.CalledLaws.{number-sound, record-facts, accepted-sound}
 use Rattle.record.specs.Shape.{Shape}
 use Rattle.record.specs.Sound.{sound}
-use Rattle.record.specs.SoundLaws.{Facts}
 use Rattle.record.specs.Stored.{planOf, figures, stored}
 use Rattle.record.specs.Words.{runLengths, total, words, cut, fromRuns, recordOf}
 use Rattle.record.specs.declared.Record.{Record}
@@ -32,7 +31,7 @@ use Rattle.layout_rules.specs.Replaced.{replaced, list-replaced}
 use Rattle.agreement_rules.specs.Reading.{RowsAt}
 use Rattle.agreement_rules.specs.Refusing.{refusalOn}
 use Rattle.agreement_rules.specs.RefusingLaws.{refusal-figures}
-use Rattle.agreement_rules.specs.Schedule.{scheduleRefusal, afterSchedule, scheduleRule}
+use Rattle.agreement_rules.specs.Schedule.{afterSchedule, scheduleRule}
 use Rattle.agreement_rules.specs.ScheduleLaws.{Schedulable, accepted-schedulable}
 use Rattle.agreement_rules.specs.Storing.{scheduleFrom, withSchedule}
 use Rattle.agreement_rules.specs.StoringLaws.{scheduled-record}

@@ -1,12 +1,12 @@
 -- Where each list of a block's output stands in its slice, for n generators and m consumers. Assumes nothing.
-use Prim.Native.Nat.{ℕ, zero, suc, _+_, _*_, _≤_, _<_}
-use mathlib.Core.Path.{_≡_, refl, sym, ap, _∙_}
-use mathlib.Core.List.{List, [], _∷_, _++_}
+use Prim.Native.Nat.{ℕ, _+_, _*_, _≤_, _<_}
+use mathlib.Core.Path.{_≡_, sym, ap, _∙_}
+use mathlib.Core.List.{List, [], _∷_}
 use native.Mathlib.Omega.{arith}
 use native.Mathlib.Nat.{zero-add}
 use lib.ListN.{length, getD, take, drop, length-drop}
 use lib.Seq.{getD-take, getD-drop, length-take-le}
-use Rattle.lists.specs.Tables.{table, is-table, length-table, getD-table}
+use Rattle.lists.specs.Tables.{table, length-table, getD-table}
 use Rattle.lists.specs.Pairs.{pairs, joined}
 use Rattle.lists.specs.PairsLaws.{length-pairs, getD-pairs, cell-index, length-joined, joined-here, joined-later, joined-none}
 use Rattle.arrays.specs.Stretches.{pairs-is, stretch-then, stretch-end}

@@ -1,15 +1,14 @@
 -- Laws of rules 5 to 7: every subtraction is exact, what a block makes of each reading adds up to it, and what comes earlier in
 -- the order is used up first. Assumes nothing.
-use Prim.Native.Nat.{ℕ, _+_, _-_, _*_, _≤_, _<_}
+use Prim.Native.Nat.{ℕ, _+_, _-_, _≤_, _<_}
 use mathlib.Core.Path.{_≡_}
 use native.Mathlib.Omega.{arith}
 use Rattle.lists.specs.Sums.{sum, sum-cong, sum-add}
 use Rattle.order_rules.specs.Members.{order-in}
 use Rattle.order_rules.specs.OrderLaws.{Ahead, order-sorted}
-use Rattle.order_rules.specs.Settle.{given, unmet}
 use Rattle.order_rules.specs.SettleLaws.{given-sum, given-le, earlier-first}
 use Rattle.delivery_rules.specs.Plan.{Plan, order}
-use Rattle.delivery_rules.specs.Delivery.{counted, unaccounted, partOf, lossOf, delivered, atExit}
+use Rattle.delivery_rules.specs.Delivery.{unaccounted, partOf, lossOf, delivered, atExit}
 use Rattle.delivery_rules.specs.DeliveryLaws.{order-within, counted-le, parts, lossOf-le}
 use Rattle.settlement_rules.specs.Settlement.{setOff, afterSetOff, underdrawn, shortfall, remainder}
 

@@ -1,6 +1,6 @@
 -- Rule 2 of a block: an energy shared over kW figures in whole watt-hours. Assumes nothing.
-use Prim.Native.Nat.{ℕ, suc, _+_, _-_, _*_, _/_}
-use mathlib.Core.Bool.{Bool, _&&_}
+use Prim.Native.Nat.{ℕ, suc, _-_, _*_, _/_}
+use mathlib.Core.Bool.{_&&_}
 use mathlib.Core.List.{List}
 use lib.Dec.{eqb, leb}
 use Rattle.lists.specs.Choice.{if_then_else_}

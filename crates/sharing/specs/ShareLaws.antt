@@ -1,18 +1,18 @@
 -- Laws of the share: the parts add up to what is shared, and none is more than its kW bear. Assumes nothing.
-use Prim.Native.Nat.{ℕ, zero, suc, _+_, _-_, _*_, _/_, _≤_, _<_}
+use Prim.Native.Nat.{ℕ, suc, _+_, _-_, _*_, _/_, _≤_, _<_}
 use mathlib.Core.Path.{_≡_, refl, sym, ap, _∙_}
 use mathlib.Core.Bool.{Bool, true, false, _&&_}
 use mathlib.Core.List.{List}
 use mathlib.Core.Logic.{⊎-elim}
 use native.Mathlib.Omega.{arith}
 use native.Mathlib.Numerals.{add-one}
-use native.Mathlib.Nat.{mul-le-mul, mul-le-mul-left, mul-le-mul-right, mul-div-cancel, zero-div, mul-zero, zero-mul, mul-add, mul-assoc, mul-comm, add-mul-div-left, div-le-of-le-mul, le-trans, le-of-eq, eq-zero-or-pos}
+use native.Mathlib.Nat.{mul-le-mul, mul-le-mul-left, mul-le-mul-right, mul-div-cancel, zero-div, mul-zero, mul-add, mul-assoc, mul-comm, add-mul-div-left, div-le-of-le-mul, le-trans, le-of-eq, eq-zero-or-pos}
 use borrow.Author.Tests.{eq-eqb, ne-eqb, le-leb, lt-leb}
-use lib.Dec.{eqb, leb}
+use lib.Dec.{leb}
 use lib.ListN.{length, getD, set, replicate, getD-replicate}
 use lib.Seq.{set-getD}
 use Rattle.lists.specs.Choice.{if_then_else_, if-either}
-use Rattle.lists.specs.Sums.{sum, sum-none, sum-more, sum-cong, sum-zero, sum-rises, sum-to, sum-add, sum-part, div-up}
+use Rattle.lists.specs.Sums.{sum, sum-none, sum-more, sum-cong, sum-rises, sum-to, sum-part, div-up}
 use Rattle.lists.specs.Tables.{table, length-table, getD-table, table-same, table-bound, Filling, fill-start, fill-step, fill-here}
 use Rattle.lists.specs.Pairs.{place}
 use Rattle.lists.specs.PairsLaws.{place-in}

@@ -7,7 +7,7 @@ use native.Mathlib.Omega.{arith}
 use borrow.Author.Tests.{leb-true, eqb-true, ne-eqb}
 use lib.Dec.{eqb, leb, ltb}
 use lib.ListN.{getD}
-use Rattle.lists.specs.Sums.{sum, sum-none, sum-zero}
+use Rattle.lists.specs.Sums.{sum-none, sum-zero}
 use Rattle.lists.specs.Pairs.{cell}
 use Rattle.lists.specs.Tests.{and-left, and-right, all, all-at, all-same}
 use Rattle.codec.specs.Bytes.{decode}

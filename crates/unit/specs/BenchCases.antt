@@ -1,5 +1,5 @@
 -- Document 01, "Bench cases": P1 to P10, every figure that the paper gives, as one theorem on the rules. Assumes nothing.
-use Prim.Native.Nat.{ℕ, _+_, _*_}
+use Prim.Native.Nat.{ℕ, _+_}
 use mathlib.Core.List.{List, [], _∷_, _++_}
 use mathlib.Core.Path.{_≡_, refl}
 use Rattle.lists.specs.Sums.{sum}
@@ -11,10 +11,10 @@ use Rattle.energy.specs.Energy.{portionUp, lossOn}
 use Rattle.sharing.specs.Share.{part}
 use Rattle.order_rules.specs.Order.{span, insert, sort, only, ahead, inOrder}
 use Rattle.order_rules.specs.Settle.{lower, settle, given, kept, unmet}
-use Rattle.delivery_rules.specs.Plan.{Plan, deemed, scheduled, order, suppliers}
+use Rattle.delivery_rules.specs.Plan.{deemed, scheduled, order, suppliers}
 use Rattle.delivery_rules.specs.Delivery.{counted, unaccounted, partOf, lossOf, delivered, atExit}
 use Rattle.settlement_rules.specs.Settlement.{setOff, afterSetOff, underdrawn, shortfall, remainder, blockLists, blockOutput}
-use Rattle.record.specs.Book.{Book, noInjection, noConsumption}
+use Rattle.record.specs.Book.{noInjection, noConsumption}
 use Rattle.agreement_rules.specs.Opening.{Opening, kindOf, installedOf, contractedOf, linkOf, rateOfLoss, openingRefusal, opened}
 use Rattle.agreement_rules.specs.Schedule.{newKw, newRank, scheduleRefusal, afterSchedule, scheduleRule}
 use Rattle.block_rules.specs.Block.{generatorAfterBlock, consumerAfterBlock, afterBlock, blockLength, entryOf, exitOf, blockRefusal, blockRule}

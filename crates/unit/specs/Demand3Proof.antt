@@ -1,13 +1,12 @@
 -- Demand 3 holds: the theorem `demand-3`, and that its lists of calls exist. Assumes nothing.
-use Prim.Native.Nat.{ℕ, zero, suc, _+_, _*_, _≤_, _<_}
+use Prim.Native.Nat.{ℕ, zero, suc, _+_, _≤_, _<_}
 use mathlib.Core.Path.{_≡_, refl, sym, ap, _∙_, subst, subst₂}
 use mathlib.Core.Bool.{Bool, true, false}
 use mathlib.Core.List.{List, [], _∷_, map}
-use mathlib.Core.Logic.{_⊎_, inl, inr}
 use native.Mathlib.Omega.{arith}
-use borrow.Author.Tests.{eqb-true, eqb-false, eq-eqb}
+use borrow.Author.Tests.{eqb-true, eq-eqb}
 use lib.Dec.{eqb}
-use lib.ListN.{length, getD, take}
+use lib.ListN.{length, take}
 use Rattle.lists.specs.Choice.{if_then_else_}
 use Rattle.lists.specs.Sums.{sum, sum-cong, sum-zero}
 use Rattle.lists.specs.Pairs.{place}
@@ -18,20 +17,19 @@ use Rattle.record.specs.Stored.{generatorAt, consumerAt, planOf, figures, store
 use Rattle.record.specs.Sound.{sound}
 use Rattle.record.specs.SoundLaws.{Facts, facts-cut, injected-most, metered-most}
 use Rattle.record.specs.StoredLaws.{figures-stored}
-use Rattle.record.specs.Called.{Rule, numberOn, recordAfter, outputAfter, Called}
+use Rattle.record.specs.Called.{numberOn, recordAfter, outputAfter, Called}
 use Rattle.record.specs.CalledLaws.{Keeps, stays-sound, stored-sound, stored-number, stored-record, stored-output, called}
 use Rattle.record.specs.declared.Record.{Record}
-use Rattle.record.specs.declared.Answer.{Answer}
 use Rattle.agreement_rules.specs.Opening.{Opening, linkOf, openingRefusal, opened, Opened, Permitted}
 use Rattle.agreement_rules.specs.OpeningLaws.{permitted-accepted, opened-facts}
 use Rattle.agreement_rules.specs.Schedule.{afterSchedule, scheduleRule}
 use Rattle.agreement_rules.specs.ScheduleLaws.{schedule-keeps}
 use Rattle.block_rules.specs.Block.{afterBlock, entryOf, exitOf, blockRule}
 use Rattle.block_rules.specs.BlockLaws.{block-keeps, block-setoff, block-drawn}
-use Rattle.closing_rules.specs.Closing.{afterClosing, closingOutput, closingLength, closingRule, bankBeforeLapse, supplied}
+use Rattle.closing_rules.specs.Closing.{afterClosing, closingOutput, closingLength, closingRule, supplied}
 use Rattle.closing_rules.specs.ClosingLaws.{closing-keeps, closing-setoff, closing-drawn, before-lapse-is, none-idle}
 use Rattle.closing_rules.specs.ClosingOutput.{closing-length, lapsed-at, bank-at, supplied-at}
-use Rattle.unit.specs.Calls.{Call, schedule, block, closing, ruleOf, next, bookAfter, Entry, bookAnswers}
+use Rattle.unit.specs.Calls.{Call, schedule, block, closing, ruleOf, next, bookAfter, bookAnswers}
 use Rattle.unit.specs.Trace.{Ask, askSchedule, askBlock, askClosing, callOf, lentOf, Given, Done, Trace, trace-none, trace-one, lastRecord}
 use Rattle.unit.specs.Demand3.{at, Match, Matches, match-none, match-one, NoIdleBank, NotIdleIn, NoIdleBanks, idle-none, idle-one, mostFigure, Demand3, Claim}
 

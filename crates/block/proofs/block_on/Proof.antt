@@ -1,5 +1,4 @@
 -- `block::block_on` meets its contract: the steps of an accepted block make up the call, and a refused one changes nothing.
-use Prim.Native.Nat.{ℕ}
 use mathlib.Core.Path.{_≡_, sym, _∙_}
 use lib.ListN.{length}
 use borrow.Author.Needs.{needs}

@@ -1,6 +1,5 @@
 -- `block_settlement::put_settled` meets its contract: the lists are put one after the other, and the remainder last. Assumes nothing.
 use mathlib.Core.Path.{refl}
-use native.Mathlib.Omega.{arith}
 use borrow.Author.Needs.{needs}
 use Rattle.block_settlement.specs.SettledLaws.{put-length}
 use Rattle.block_settlement.proofs.put_settled.Statement.{statement}

@@ -1,5 +1,4 @@
 -- `closing::close_on` meets its contract: the lists and the totals of an accepted closing make up the call, and a refused one changes nothing.
-use Prim.Native.Nat.{ℕ}
 use mathlib.Core.Path.{_≡_, sym, _∙_}
 use lib.ListN.{length}
 use borrow.Author.Needs.{needs}

@@ -1,7 +1,4 @@
 -- `in_place::add_at` meets its contract: the number there is read, and its sum with w written. Assumes nothing.
-use mathlib.Core.Path.{ap, _∙_}
-use Prim.Native.Nat.{ℕ, _+_}
-use lib.ListN.{set}
 use borrow.Author.Needs.{needs}
 use Rattle.in_place.proofs.add_at.Statement.{statement}
 use Rattle.in_place.proofs.add_at.Tie as tie
