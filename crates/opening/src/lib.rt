@@ -1,14 +1,18 @@
 // Opening a unit: the call's number on the display, and the first record.
+// A function with a `requires` is called by this repository's crates only, and they meet it.
 ghost use mathlib.Core.Path.{_≡_};
 ghost use Prim.Native.Nat.{_*_, _≤_};
 ghost use lib.ListN.{length};
+ghost use Rattle.codec.specs.Bytes.{encode};
 ghost use Rattle.energy.specs.Limits.{mostGenerators, mostConsumers};
 ghost use Rattle.record.specs.Book.{noInjection, noConsumption};
 ghost use Rattle.record.specs.Stored.{storedGenerators, storedConsumers, stored, zeros};
+ghost use Rattle.record.specs.Words.{words};
 ghost use Rattle.agreement_rules.specs.Opening.{opened, Opened, Permitted};
 ghost use Rattle.agreement_rules.specs.Reading.{Threes};
 ghost use Rattle.agreement_rules.specs.Refusing.{asked};
 ghost use Rattle.agreement_rules.specs.Storing.{agreedFrom, linksFrom, firstSchedule};
+ghost use Rattle.opening.specs.OpenedOn.{OpenedOn};
 
 fn agreed_from(n: usize, list: &[u32]) -> record::Agreed
     requires { ⌜ Threes (now list) n 0 ⌝ }
@@ -115,7 +119,8 @@ fn zero_record() -> record::Record
     }
 }
 
-fn opened_record(
+// Stores the record of a permitted opening, each part made just before it is stored: no whole record is built.
+fn store_opened(
     n: usize,
     m: usize,
     rate: u32,
@@ -123,9 +128,10 @@ fn opened_record(
     gone: u32,
     generator_list: &[u32],
     pair_list: &[u32],
-) -> record::Record
-    requires { ⌜ Permitted (asked n m rate cycle gone (now «generator_list») (now «pair_list»)) ⌝ }
-    ensures { λ r. ⌜ r ≡ stored (opened (asked n m rate cycle gone (now («generator_list» .entry)) (now («pair_list» .entry)))) ⌝ }
+    s: &mut [u8],
+)
+    requires { ⌜ Permitted (asked n m rate cycle gone (now «generator_list») (now «pair_list»)) × (length (now s) ≡ 5752) ⌝ }
+    ensures { λ _. ⌜ now (s .exit) ≡ encode 8 (words (stored (opened (asked n m rate cycle gone (now («generator_list» .entry)) (now («pair_list» .entry)))))) ⌝ }
 {
     let terms = record::Terms {
         generators: n as u64,
@@ -133,27 +139,50 @@ fn opened_record(
         rate: lists::wide(rate),
         cycle: lists::wide(cycle),
     };
+    storing::store_terms(terms, s);
     let counts = record::Counts {
         gone: lists::wide(gone),
         blocks: 0,
         month: 0,
     };
+    storing::store_counts(counts, s);
     let agreed = agreed_from(n, generator_list);
+    storing::store_agreed(agreed, s);
     let links = links_from(n, m, pair_list);
+    storing::store_links(links, s);
     let schedule = first_schedule(n, m);
+    storing::store_schedule(schedule, s);
     let generators = no_injection();
+    storing::store_generators(generators, s);
     let consumers = no_consumption();
-    record::Record {
-        terms,
-        counts,
-        agreed,
-        links,
-        schedule,
-        generators,
-        consumers,
-    }
+    storing::store_consumers(consumers, s);
 }
 
+// Opens a unit in a record's bytes, whatever they hold; a refused opening leaves them as they were.
+pub fn opening_on(
+    generators: u32,
+    consumers: u32,
+    rate: u32,
+    cycle: u32,
+    gone: u32,
+    generator_list: &[u32],
+    pair_list: &[u32],
+    s: &mut [u8],
+) -> u32
+    requires { ⌜ length (now s) ≡ 5752 ⌝ }
+    ensures { λ r. ⌜ OpenedOn (asked generators consumers rate cycle gone (now («generator_list» .entry)) (now («pair_list» .entry))) (now (s .entry)) r (now (s .exit)) ⌝ }
+{
+    let n = generators as usize;
+    let m = consumers as usize;
+    let number = opening_refusal::refusal(n, m, rate, cycle, gone, generator_list, pair_list);
+    if number == 0 {
+        store_opened(n, m, rate, cycle, gone, generator_list, pair_list, s);
+        return 0;
+    }
+    number
+}
+
+// Opens a unit; a refused opening returns zeros.
 pub fn opening(
     generators: u32,
     consumers: u32,
@@ -165,11 +194,19 @@ pub fn opening(
 ) -> record::Answer
     ensures { λ a. ⌜ Opened (asked generators consumers rate cycle gone (now («generator_list» .entry)) (now («pair_list» .entry))) (a .number) (a .after) ⌝ }
 {
-    let n = generators as usize;
-    let m = consumers as usize;
-    let number = opening_refusal::refusal(n, m, rate, cycle, gone, generator_list, pair_list);
+    let mut s = [0u8; 5752];
+    let number = opening_on(
+        generators,
+        consumers,
+        rate,
+        cycle,
+        gone,
+        generator_list,
+        pair_list,
+        &mut s,
+    );
     if number == 0 {
-        let after = opened_record(n, m, rate, cycle, gone, generator_list, pair_list);
+        let after = loading::load(&s);
         record::Answer { number: 0, after }
     } else {
         let after = zero_record();

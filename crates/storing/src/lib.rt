@@ -27,7 +27,7 @@ fn store128(run: [u64; 128], s: &mut [u8], at: usize)
     codec::put8s(&run, s, at);
 }
 
-fn store_terms(t: record::Terms, s: &mut [u8])
+pub fn store_terms(t: record::Terms, s: &mut [u8])
     requires { ⌜ length (now s) ≡ 5752 ⌝ }
     ensures { λ _. ⌜ Laid 0 4 (termsRun t) (now (s .entry)) (now (s .exit)) ⌝ }
 {
@@ -35,7 +35,7 @@ fn store_terms(t: record::Terms, s: &mut [u8])
     codec::put8s(&run, s, layout_rules::GENERATOR_COUNT);
 }
 
-fn store_counts(t: record::Counts, s: &mut [u8])
+pub fn store_counts(t: record::Counts, s: &mut [u8])
     requires { ⌜ length (now s) ≡ 5752 ⌝ }
     ensures { λ _. ⌜ Laid 4 7 (countsRun t) (now (s .entry)) (now (s .exit)) ⌝ }
 {
@@ -43,7 +43,7 @@ fn store_counts(t: record::Counts, s: &mut [u8])
     codec::put8s(&run, s, layout_rules::GONE);
 }
 
-fn store_agreed(t: record::Agreed, s: &mut [u8])
+pub fn store_agreed(t: record::Agreed, s: &mut [u8])
     requires { ⌜ length (now s) ≡ 5752 ⌝ }
     ensures { λ _. ⌜ Laid 7 31 (agreedRun t) (now (s .entry)) (now (s .exit)) ⌝ }
 {
@@ -51,7 +51,7 @@ fn store_agreed(t: record::Agreed, s: &mut [u8])
     codec::put8s(&run, s, layout_rules::AGREED);
 }
 
-fn store_links(t: record::Links, s: &mut [u8])
+pub fn store_links(t: record::Links, s: &mut [u8])
     requires { ⌜ length (now s) ≡ 5752 ⌝ }
     ensures { λ _. ⌜ Laid 31 287 (linksRun t) (now (s .entry)) (now (s .exit)) ⌝ }
 {
@@ -61,7 +61,7 @@ fn store_links(t: record::Links, s: &mut [u8])
     store128(loss, s, layout_rules::LOSS);
 }
 
-fn store_schedule(t: record::Schedule, s: &mut [u8])
+pub fn store_schedule(t: record::Schedule, s: &mut [u8])
     requires { ⌜ length (now s) ≡ 5752 ⌝ }
     ensures { λ _. ⌜ Laid 287 543 (scheduleRun t) (now (s .entry)) (now (s .exit)) ⌝ }
 {
@@ -71,7 +71,7 @@ fn store_schedule(t: record::Schedule, s: &mut [u8])
     store128(rank, s, layout_rules::RANK);
 }
 
-fn store_generators(t: record::Generators, s: &mut [u8])
+pub fn store_generators(t: record::Generators, s: &mut [u8])
     requires { ⌜ length (now s) ≡ 5752 ⌝ }
     ensures { λ _. ⌜ Laid 543 623 (generatorsRun t) (now (s .entry)) (now (s .exit)) ⌝ }
 {
@@ -97,7 +97,7 @@ fn store_generators(t: record::Generators, s: &mut [u8])
     store8(pending, s, layout_rules::PENDING);
 }
 
-fn store_consumers(t: record::Consumers, s: &mut [u8])
+pub fn store_consumers(t: record::Consumers, s: &mut [u8])
     requires { ⌜ length (now s) ≡ 5752 ⌝ }
     ensures { λ _. ⌜ Laid 623 719 (consumersRun t) (now (s .entry)) (now (s .exit)) ⌝ }
 {

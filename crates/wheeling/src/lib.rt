@@ -50,7 +50,7 @@ pub extern "C" fn wheeling_open(
         let n = host::read_input(generator_list, &mut agreed);
         let mut pairs = [0u32; 257];
         let m = host::read_input(pair_list, &mut pairs);
-        let a = opening::opening(
+        return opening::opening_on(
             generators,
             consumers,
             rate,
@@ -58,8 +58,8 @@ pub extern "C" fn wheeling_open(
             gone,
             &agreed[0..n],
             &pairs[0..m],
+            record,
         );
-        return host::keep(a, record);
     }
     2
 }

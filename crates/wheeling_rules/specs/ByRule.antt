@@ -1,13 +1,8 @@
 -- The calls on bytes as plain equations: the number and every byte of record and output follow from the bytes before. Assumes nothing.
 use Prim.Native.Nat.{ℕ}
-use mathlib.Core.Path.{_≡_, refl, sym, ap, _∙_}
-use mathlib.Core.Bool.{Bool, true, false}
+use mathlib.Core.Path.{_≡_, sym, ap, _∙_}
 use mathlib.Core.List.{List, []}
-use borrow.Author.Tests.{eqb-true}
-use lib.Dec.{eqb}
 use lib.ListN.{length}
-use Rattle.lists.specs.Choice.{if_then_else_}
-use Rattle.codec.specs.Bytes.{encode}
 use Rattle.record.specs.Words.{words}
 use Rattle.record.specs.Stored.{figures, stored}
 use Rattle.record.specs.Called.{Rule, numberOn, Called}
@@ -18,22 +13,13 @@ use Rattle.block_rules.specs.Block.{blockRule}
 use Rattle.closing_rules.specs.Closing.{closingRule}
 use Rattle.layout_rules.specs.OnBytes.{recordIn, bytesAfter}
 use Rattle.wheeling_rules.specs.Wheeling.{recordBytes, numbersIn, Stored, ByteScheduled, ByteBlocked, ByteClosed}
-use Rattle.wheeling_rules.specs.ReadingLaws.{no-bytes}
+use Rattle.wheeling_rules.specs.ReadingLaws.{after-same, no-bytes}
 
 -- what a rule of document 01 makes of the record that the bytes hold
 pub record ByRule (rule : Rule) (bytes lent : List ℕ) (number : ℕ) (bytes′ lent′ : List ℕ) : Type 0 where
   pub number-is : number ≡ numberOn rule (recordIn bytes)
   pub record-is : bytes′ ≡ bytesAfter number (words (stored (rule .after (figures (recordIn bytes))))) bytes
   pub output-is : lent′ ≡ bytesAfter number (rule .output (figures (recordIn bytes))) lent
-
--- what is given counts only where the call is accepted
-after-same : (bytes : List ℕ) {n : ℕ} {xs ys : List ℕ} → (n ≡ 0 → xs ≡ ys) → bytesAfter n xs bytes ≡ bytesAfter n ys bytes
-unfolding bytesAfter
-after-same bytes {n} {xs} {ys} h = go (eqb n 0) refl
-  where
-    go : (t : Bool) → eqb n 0 ≡ t → (if t then encode 8 xs else bytes) ≡ (if t then encode 8 ys else bytes)
-    go true e = ap (encode 8) (h (eqb-true n 0 e))
-    go false e = refl
 
 by-rule : {rule : Rule} {a : Answer} {numbers out bytes lent bytes′ lent′ : List ℕ} {n : ℕ} →
     Called rule (recordIn bytes) numbers (a .number) (a .after) out → Stored a out bytes lent n bytes′ lent′ → ByRule rule bytes lent n bytes′ lent′

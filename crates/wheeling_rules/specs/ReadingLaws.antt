@@ -5,7 +5,7 @@ use mathlib.Core.Bool.{Bool, true, false}
 use mathlib.Core.List.{List, []}
 use mathlib.Core.Logic.{inl, inr}
 use native.Mathlib.Omega.{arith}
-use borrow.Author.Tests.{eq-eqb, ne-eqb}
+use borrow.Author.Tests.{eqb-true, eq-eqb, ne-eqb}
 use borrow.Rule.Slice.PartMut.{putMid, midOf, postOf, mid-len, same-len-mid}
 use lib.Dec.{eqb}
 use lib.ListN.{length, take}
@@ -114,6 +114,15 @@ numbers-encode ws h =
 pub numbers-none : numbersIn 8 [] ≡ []
 unfolding numbersIn decode
 numbers-none = refl
+
+-- what is given counts only where the call is accepted
+pub after-same : (bytes : List ℕ) {n : ℕ} {xs ys : List ℕ} → (n ≡ 0 → xs ≡ ys) → bytesAfter n xs bytes ≡ bytesAfter n ys bytes
+unfolding bytesAfter
+after-same bytes {n} {xs} {ys} h = go (eqb n 0) refl
+  where
+    go : (t : Bool) → eqb n 0 ≡ t → (if t then encode 8 xs else bytes) ≡ (if t then encode 8 ys else bytes)
+    go true e = ap (encode 8) (h (eqb-true n 0 e))
+    go false e = refl
 
 -- a call with no output leaves none
 pub no-bytes : (n : ℕ) → [] ≡ bytesAfter n [] []

@@ -6,20 +6,20 @@ use mathlib.Core.List.{List, []}
 use mathlib.Core.Logic.{_⊎_, inl, inr, ⊎-elim}
 use native.Mathlib.Omega.{arith}
 use native.Mathlib.Nat.{mul-le-mul}
-use borrow.Author.Tests.{eqb-true}
+use borrow.Author.Tests.{eqb-true, eq-eqb}
 use lib.Dec.{eqb}
 use lib.ListN.{length}
 use Rattle.lists.specs.Choice.{if_then_else_}
 use Rattle.codec.specs.Bytes.{encode, decode}
 use Rattle.record.specs.Words.{words, recordOf}
-use Rattle.record.specs.Stored.{figures, stored}
+use Rattle.record.specs.Stored.{figures, stored, zeros}
 use Rattle.record.specs.Sound.{sound}
 use Rattle.record.specs.SoundLaws.{Facts}
 use Rattle.record.specs.Called.{Rule, numberOn, recordAfter, outputAfter, Called}
 use Rattle.record.specs.CalledLaws.{record-facts, number-sound, number-unsound, accepted-sound, record-accepted, record-refused, output-accepted}
 use Rattle.record.specs.declared.Record.{Record}
 use Rattle.record.specs.declared.Answer.{Answer}
-use Rattle.agreement_rules.specs.Opening.{Opening, openingRefusal, Opened}
+use Rattle.agreement_rules.specs.Opening.{Opening, openingRefusal, opened, Opened}
 use Rattle.agreement_rules.specs.OpeningLaws.{opening-sized}
 use Rattle.agreement_rules.specs.Refusing.{asked}
 use Rattle.agreement_rules.specs.Schedule.{scheduleRule, Scheduled}
@@ -30,7 +30,7 @@ use Rattle.closing_rules.specs.Closing.{closingLength, closingRefusal, closingR
 use Rattle.closing_rules.specs.ClosingLaws.{closing-sized}
 use Rattle.layout_rules.specs.OnBytes.{recordIn, bytesAfter, CalledOn}
 use Rattle.wheeling_rules.specs.Wheeling.{recordBytes, numbersIn, Stored, Done, OnBytes, openingIn, ByteOpened, ByteScheduled, ByteBlocked, ByteClosed}
-use Rattle.wheeling_rules.specs.ReadingLaws.{no-bytes}
+use Rattle.wheeling_rules.specs.ReadingLaws.{after-same, no-bytes}
 use Rattle.wheeling_rules.specs.Reading.{AlikeSize, Alike, Kept, Made, Written}
 
 -- ---- a call does not tell lists apart that are too long for it
@@ -244,10 +244,17 @@ module _ {refusal : ℕ} {ensured : Answer → List ℕ → Type 0} {bytes lent 
 
 -- ---- the four calls
 
-pub opening-on-bytes : (G C rate cycle gone : ℕ) (generators pairs : List ℕ) {xs ys bytes bytes′ : List ℕ} {a : Answer} {n : ℕ} → length bytes ≡ recordBytes →
-    Alike 25 xs (numbersIn 4 generators) → Alike 257 ys (numbersIn 4 pairs) → Opened (asked G C rate cycle gone xs ys) (a .number) (a .after) → Kept a bytes n bytes′ →
+pub opening-on-bytes : (G C rate cycle gone : ℕ) (generators pairs : List ℕ) {xs ys bytes bytes′ : List ℕ} {n : ℕ} → length bytes ≡ recordBytes →
+    Alike 25 xs (numbersIn 4 generators) → Alike 257 ys (numbersIn 4 pairs) → n ≡ openingRefusal (asked G C rate cycle gone xs ys) →
+    bytes′ ≡ bytesAfter n (words (stored (opened (asked G C rate cycle gone xs ys)))) bytes →
     ByteOpened (openingIn G C rate cycle gone generators pairs) bytes n bytes′
-opening-on-bytes G C rate cycle gone generators pairs l x y h k = on-whole l (done-silent (opening-same G C rate cycle gone x y h) k)
+opening-on-bytes G C rate cycle gone generators pairs {xs} {ys} {bytes} {n = n} l x y e k =
+    let o = asked G C rate cycle gone xs ys in
+    let a : Answer = record { number = n; after = if eqb (openingRefusal o) 0 then stored (opened o) else zeros } in
+    let accepted : n ≡ 0 → stored (opened o) ≡ a .after = λ z. rw (eq-eqb (openingRefusal o) 0 (sym e ∙ z)) in
+    on-whole l
+    (done-silent {a = a} (opening-same G C rate cycle gone x y (record { number-is = e; record-is = refl }))
+    (record { number-is = refl; record-is = k ∙ after-same bytes (λ z. ap words (accepted z)) }))
 
 pub schedule-on-bytes : (kws ranks : List ℕ) {xs ys bytes bytes′ : List ℕ} {a : Answer} {n : ℕ} → length bytes ≡ recordBytes →
     Alike 129 xs (numbersIn 4 kws) → Alike 129 ys (numbersIn 4 ranks) → Scheduled (recordIn bytes) xs ys a → Kept a bytes n bytes′ →

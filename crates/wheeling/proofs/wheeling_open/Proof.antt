@@ -1,4 +1,4 @@
--- `wheeling::wheeling_open` meets its contract: opening on the numbers that the bytes hold.
+-- `wheeling::wheeling_open` meets its contract: opening on the numbers that the bytes hold. Assumes nothing.
 use borrow.Author.Needs.{needs}
 use Rattle.wheeling_rules.specs.ReadingLaws.{lent-alike}
 use Rattle.wheeling_rules.specs.WheelingLaws.{opening-on-bytes, on-other}
@@ -17,41 +17,38 @@ slice-aggregate-read-input-2 c = search needs
 read-input-requires-2 : tie.Need-read-input-requires-2
 read-input-requires-2 c κs = search needs
 
-sub-opening : tie.Need-sub-opening
-sub-opening c = search needs
+sub-opening-on : tie.Need-sub-opening-on
+sub-opening-on c = search needs
 
-part-opening-start : tie.Need-part-opening-start
-part-opening-start c = search needs
+part-opening-on-start : tie.Need-part-opening-on-start
+part-opening-on-start c = search needs
 
-part-opening-end : tie.Need-part-opening-end
-part-opening-end c = search needs
+part-opening-on-end : tie.Need-part-opening-on-end
+part-opening-on-end c = search needs
 
-sub-opening-2 : tie.Need-sub-opening-2
-sub-opening-2 c = search needs
+sub-opening-on-2 : tie.Need-sub-opening-on-2
+sub-opening-on-2 c = search needs
 
-part-opening-start-2 : tie.Need-part-opening-start-2
-part-opening-start-2 c = search needs
+part-opening-on-start-2 : tie.Need-part-opening-on-start-2
+part-opening-on-start-2 c = search needs
 
-part-opening-end-2 : tie.Need-part-opening-end-2
-part-opening-end-2 c = search needs
+part-opening-on-end-2 : tie.Need-part-opening-on-end-2
+part-opening-on-end-2 c = search needs
 
-opening-requires : tie.Need-opening-requires
-opening-requires c κs = search needs
-
-keep-requires : tie.Need-keep-requires
-keep-requires c κs = search needs
+opening-on-requires : tie.Need-opening-on-requires
+opening-on-requires c κs = search needs
 
 same-length : tie.Need-same-length
 same-length c = search needs
 
 returns : tie.Need-returns
 returns c =
-    let kept = c .before .before in
-    let called = kept .before .before in
-    let second = called .before .before .before .before .before .before in
+    let called = c .before .before in
+    let second = called .before .before .before .before .before .before .before in
     let first = second .before .before .before in
     let here = first .before .before in
-    opening-on-bytes _ _ _ _ _ _ _ (here .if1 .taken) (lent-alike (first .read-input .ensures)) (lent-alike (second .read-input2 .ensures)) (called .opening .ensures) (kept .keep .ensures)
+    let opened = called .opening-on .ensures in
+    opening-on-bytes _ _ _ _ _ _ _ (here .if1 .taken) (lent-alike (first .read-input .ensures)) (lent-alike (second .read-input2 .ensures)) (opened .number-is) (opened .record-is)
 
 returns-2 : tie.Need-returns-2
 returns-2 c = on-other (c .if1 .left)
@@ -64,14 +61,13 @@ wheeling-open-spec =
     read-input-requires
     slice-aggregate-read-input-2
     read-input-requires-2
-    sub-opening
-    part-opening-start
-    part-opening-end
-    sub-opening-2
-    part-opening-start-2
-    part-opening-end-2
-    opening-requires
-    keep-requires
+    sub-opening-on
+    part-opening-on-start
+    part-opening-on-end
+    sub-opening-on-2
+    part-opening-on-start-2
+    part-opening-on-end-2
+    opening-on-requires
     same-length
     returns
     returns-2)

@@ -1,0 +1,2 @@
+pub mod OpenedOn
+pub mod OpenedOnLaws
