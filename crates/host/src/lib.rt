@@ -1,10 +1,10 @@
-// What a C call is handed and hands back: lists as bytes, low byte first, 4 a number in the inputs and 8 in the outputs, and the record. Called by this repository's
-// crates only: what a function requires, its callers meet.
+// What a C call is handed and hands back: lists as bytes, low byte first, 4 a number in the inputs and 8 in the outputs. Called by this
+// repository's crates only: what a function requires, its callers meet.
 ghost use mathlib.Core.Path.{_≡_};
 ghost use Prim.Native.Nat.{_*_, _≤_};
 ghost use lib.ListN.{length};
 ghost use Rattle.wheeling_rules.specs.Wheeling.{numbersIn};
-ghost use Rattle.wheeling_rules.specs.Reading.{Taken, Room, Kept, Written};
+ghost use Rattle.wheeling_rules.specs.Reading.{Taken, Room, Written};
 
 // Reads the numbers of an input into the front of `out`, and returns how many there are. Bytes that are no whole count of numbers, or
 // too many for `out`, count as all of `out`: it has more places than any agreement takes, so the call refuses them as a wrong length.
@@ -46,18 +46,4 @@ pub fn give(refusal: u32, out: &[u64], output: &mut [u8]) -> u32
         return 0;
     }
     refusal
-}
-
-// Stores the record of an accepted call.
-pub fn keep(a: record::Answer, bytes: &mut [u8]) -> u32
-    requires { ⌜ length (now bytes) ≡ 5752 ⌝ }
-    ensures { λ r. ⌜ Kept a (now (bytes .entry)) r (now (bytes .exit)) ⌝ }
-{
-    let number = a.number;
-    if number == 0 {
-        let after = a.after;
-        storing::store(after, bytes);
-        return 0;
-    }
-    number
 }

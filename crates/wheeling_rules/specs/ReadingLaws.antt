@@ -14,11 +14,9 @@ use Rattle.lists.specs.Choice.{if_then_else_}
 use Rattle.lists.specs.Tables.{length-table}
 use Rattle.codec.specs.Bytes.{encode, decode}
 use Rattle.codec.specs.BytesLaws.{Below, length-encode, length-decode, decode-encode}
-use Rattle.record.specs.Words.{words}
-use Rattle.record.specs.declared.Answer.{Answer}
 use Rattle.layout_rules.specs.OnBytes.{bytesAfter}
 use Rattle.wheeling_rules.specs.Wheeling.{numbersIn}
-use Rattle.wheeling_rules.specs.Reading.{AlikeSize, Alike, Taken, Fits, Room, Kept, Written}
+use Rattle.wheeling_rules.specs.Reading.{AlikeSize, Alike, Taken, Fits, Room, Written}
 
 module _ (w : ℕ) (bytes : List ℕ) where
   pub numbers-whole : length bytes % w ≡ 0 → numbersIn w bytes ≡ decode w (length bytes / w) bytes
@@ -85,15 +83,6 @@ module _ {lent : List ℕ} {k n : ℕ} (h : Room lent k n) (size : ℕ) (same : 
 
   pub room-alike : AlikeSize k size (length (numbersIn 8 lent))
   room-alike = let whole : size ≡ n = omega arith in rw whole (h .alike)
-
-module _ {a : Answer} {bytes : List ℕ} where
-  pub kept-accepted : {bytes′ : List ℕ} → a .number ≡ 0 → bytes′ ≡ encode 8 (words (a .after)) → Kept a bytes 0 bytes′
-  unfolding bytesAfter
-  kept-accepted z e = record { number-is = sym z; record-is = e }
-
-  pub kept-refused : (a .number ≡ 0 → ⊥) → Kept a bytes (a .number) bytes
-  unfolding bytesAfter
-  kept-refused z = record { number-is = refl; record-is = rw (ne-eqb (a .number) 0 z) }
 
 module _ {out lent : List ℕ} {refusal : ℕ} where
   pub written-accepted : {lent′ : List ℕ} → refusal ≡ 0 → lent′ ≡ encode 8 out → Written refusal out lent 0 lent′

@@ -7,7 +7,7 @@ use lib.Dec.{eqb}
 use lib.ListN.{length}
 use Rattle.lists.specs.Choice.{if_then_else_}
 use Rattle.lists.specs.Tables.{table}
-use Rattle.codec.specs.Bytes.{encode, decode}
+use Rattle.codec.specs.Bytes.{decode}
 use Rattle.record.specs.Words.{words}
 use Rattle.layout_rules.specs.OnBytes.{recordIn, bytesAfter}
 use Rattle.record.specs.declared.Answer.{Answer}

@@ -10,8 +10,8 @@ use borrow.Author.Tests.{eqb-true, eq-eqb}
 use lib.Dec.{eqb}
 use lib.ListN.{length}
 use Rattle.lists.specs.Choice.{if_then_else_}
-use Rattle.codec.specs.Bytes.{encode, decode}
-use Rattle.record.specs.Words.{words, recordOf}
+use Rattle.codec.specs.Bytes.{encode}
+use Rattle.record.specs.Words.{words}
 use Rattle.record.specs.Stored.{figures, stored, zeros}
 use Rattle.record.specs.Sound.{sound}
 use Rattle.record.specs.SoundLaws.{Facts}
@@ -180,18 +180,13 @@ module _ (G C rate cycle gone : ℕ) {xs xs′ ys ys′ : List ℕ} {n : ℕ} {r
 
 -- a call on the bytes is the call on the record that they hold, kept
 pub made : {rule : Rule} {bytes lent bytes′ out : List ℕ} {n : ℕ} → CalledOn rule bytes lent n bytes′ out → Made (λ (a : Answer). Called rule (recordIn bytes) lent (a .number) (a .after) out) bytes n bytes′
-unfolding bytesAfter
 made {rule} {bytes} {n = n} c = (
   record { number = n; after = recordAfter rule (recordIn bytes) },
   (
     record { number-is = c .number-is; record-is = refl; output-is = c .output-is },
-    record { number-is = refl; record-is = c .record-is ∙ go (eqb n 0) refl },
+    record { number-is = refl; record-is = c .record-is ∙ after-same bytes (λ z. ap words (sym (record-accepted rule (recordIn bytes) (sym (c .number-is) ∙ z)))) },
   ),
 )
-  where
-    go : (t : Bool) → eqb n 0 ≡ t → (if t then encode 8 (words (stored (rule .after (figures (recordIn bytes))))) else bytes) ≡ (if t then encode 8 (words (recordAfter rule (recordIn bytes))) else bytes)
-    go true e = ap (λ (x : Record). encode 8 (words x)) (sym (record-accepted rule (recordIn bytes) (sym (c .number-is) ∙ eqb-true n 0 e)))
-    go false e = refl
 
 pub done : {rule : Rule} {r : Record} {numbers out bytes lent bytes′ lent′ : List ℕ} {a : Answer} {n m : ℕ} →
     Called rule r numbers (a .number) (a .after) out → Kept a bytes n bytes′ → Written n out lent m lent′ →
