@@ -67,7 +67,8 @@ FAULTS = {
     "schedule: kW on unlinked pairs allowed":
         ("schedule_refusal/src/lib.rt", "(0 < kws[from + c])", "(400_000 < kws[from + c])"),
     "schedule: kW stored as ranks":
-        ("schedule/src/lib.rt", "spread(ranks, 0, n, m)", "spread(kws, 0, n, m)"),
+        ("schedule/src/lib.rt", "put_list(s, layout_rules::RANK, ranks, n, m)",
+         "put_list(s, layout_rules::RANK, kws, n, m)"),
     # block
     "block: reading limit one low":
         ("block_refusal/src/lib.rt", "energy::MOST_READING < lists::wide",
@@ -173,9 +174,12 @@ FAULTS = {
          "store128(loss, s, layout_rules::LOSS);", "store128(loss, s, layout_rules::LINK);"),
     "bytes: months gone written one place late":
         ("layout_rules/src/lib.rt", "GONE: usize = 4;", "GONE: usize = 5;"),
-    "bytes: charge loaded from drawn":
-        ("loading/src/lib.rt", "let charge = load8(s, layout_rules::CHARGE);",
-         "let charge = load8(s, layout_rules::GENERATOR_DRAWN);"),
+    "bytes: contracted loaded as installed":
+        ("loading/src/lib.rt", "let installed = agreed_rows::column(rows, 1);",
+         "let installed = agreed_rows::column(rows, 2);"),
+    "bytes: bank loaded from pending":
+        ("closing/src/lib.rt", "loading::load8(s, layout_rules::BANK)",
+         "loading::load8(s, layout_rules::PENDING)"),
     "bytes: consumers stored one place early":
         ("storing/src/lib.rt", "store16(supplied, s, layout_rules::SUPPLIED);",
          "store16(supplied, s, layout_rules::SUPPLIED - 1);"),
@@ -300,7 +304,7 @@ def tested_in(crate):
 def must_fail_edits():
     """The must-fail edits that change code under test: name, what is tested, {file: pairs}."""
     for crate in dict.fromkeys(CALLS.crates() + READER.crates()):
-        for path in sorted((REPOSITORY / "crates" / crate / "must-fail").glob("*.edit")):
+        for path in sorted((REPOSITORY / "crates" / crate / "must-fail").rglob("*.edit")):
             files, file, old = {}, None, None
             for line in path.read_text().splitlines():
                 if line.startswith("file: "):
