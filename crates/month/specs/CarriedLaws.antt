@@ -39,7 +39,7 @@ module _ (k : Call) {r : Record} {lent out′ : List ℕ} {a : Answer} (s : soun
   number-book : a .number ≡ ruleOf k .refusal (figures r)
   number-book = h .number-is ∙ number-sound (ruleOf k) r s
 
-  pub carried-one : Carried (figures r) (k ∷ []) a
+  carried-one : Carried (figures r) (k ∷ []) a
   unfolding bookAnswers bookAfter firstRefused
   carried-one =
       record {

@@ -15,16 +15,18 @@ use Rattle.record.specs.SoundLaws.{Facts, facts-sound, facts-cut}
 use Rattle.record.specs.StoredLaws.{figures-stored}
 use Rattle.record.specs.declared.Record.{Record}
 use Rattle.record.specs.declared.Answer.{Answer}
-use Rattle.layout_rules.specs.OnBytes.{bookIn}
+use Rattle.layout_rules.specs.OnBytes.{bookIn, CalledOn}
 use Rattle.agreement_rules.specs.Opening.{openingRefusal, opened, Opened}
 use Rattle.agreement_rules.specs.OpeningLaws.{accepted-permitted, opened-facts}
-use Rattle.agreement_rules.specs.Schedule.{Scheduled}
+use Rattle.agreement_rules.specs.Schedule.{scheduleRule}
 use Rattle.unit.specs.Calls.{block, closing, ruleOf, bookAfter, Entry, bookAnswers}
 use Rattle.unit.specs.AgreementA.{agreementA, scheduleA}
 use Rattle.unit.specs.BenchCases.{bench-cases}
 use Rattle.report_rules.specs.Display.{blocks, calls, firstRefused}
+use Rattle.opening.specs.OpenedOn.{OpenedOn}
+use Rattle.opening.specs.OpenedOnLaws.{opened-back}
 use Rattle.month.specs.Carried.{Holds, Carried, Ready, answered}
-use Rattle.month.specs.CarriedLaws.{carried-one, carried-none, carried-then, carried-stop, carried-ready}
+use Rattle.month.specs.CarriedLaws.{carried-on, carried-none, carried-then, carried-stop, carried-ready}
 
 -- ---- agreement A
 
@@ -50,13 +52,14 @@ schedule-first : firstRefused (bookAnswers (opened agreementA) (scheduleA ∷ []
 unfolding bookAnswers firstRefused
 schedule-first = rw (eq-eqb (ruleOf scheduleA .refusal (opened agreementA)) 0 schedule-accepted)
 
-pub agreement-held : {number : ℕ} {r : Record} {a : Answer} → Opened agreementA number r → Scheduled r (100 ∷ 200 ∷ []) (1 ∷ 1 ∷ []) a
-    → Holds (a .after) (bookAfter (opened agreementA) (scheduleA ∷ []))
+-- the record that agreement A starts with, in the bytes
+pub agreement-held : {s s₁ s₂ : List ℕ} {n m : ℕ} → OpenedOn agreementA s n s₁ → length s₁ ≡ 5752 → CalledOn (scheduleRule (100 ∷ 200 ∷ []) (1 ∷ 1 ∷ [])) s₁ [] m s₂ []
+    → Holds (recordOf (decode 8 719 s₂)) (bookAfter (opened agreementA) (scheduleA ∷ []))
 unfolding ruleOf
-agreement-held {number} {r} {a} o h =
-    let q = opened-held o in
-    let k : Carried (opened agreementA) (scheduleA ∷ []) a =
-    subst (λ (b : Book). Carried b (scheduleA ∷ []) a) (q .is) (carried-one scheduleA (ap sound (q .is) ∙ q .sound-is) h) in
+agreement-held {s} {s₁} {s₂} {n} {m} o whole h =
+    let q = opened-held (opened-back o (o .number-is ∙ opening-accepted) refl) in
+    let k : Carried (opened agreementA) (scheduleA ∷ []) (answered m s₂) =
+    subst (λ (b : Book). Carried b (scheduleA ∷ []) (answered m s₂)) (q .is) (carried-on scheduleA (record { whole = whole; sound-is = ap sound (q .is) ∙ q .sound-is }) h) in
     k .holds (k .number-is ∙ schedule-first)
 
 -- ---- lines
@@ -108,13 +111,11 @@ module _ {start vs at : List ℕ} {i : ℕ} (h : Entering start vs at i) where
 scheduled : {r : Record} → Holds r (bookAfter (opened agreementA) (scheduleA ∷ [])) → Carried (opened agreementA) (scheduleA ∷ []) (record { number = 0; after = r })
 scheduled {r} q = record { number-is = sym schedule-first; holds = λ z. q }
 
--- the bytes of the record that agreement A starts with
-module _ (s : List ℕ) {r : Record} (q : Holds r (bookAfter (opened agreementA) (scheduleA ∷ []))) (e : recordOf (decode 8 719 s) ≡ r) where
+module _ (s : List ℕ) (q : Holds (recordOf (decode 8 719 s)) (bookAfter (opened agreementA) (scheduleA ∷ []))) where
   pub month-ready : length s ≡ 5752 → Ready s
-  month-ready whole = record { whole = whole; sound-is = ap (λ (x : Record). sound (figures x)) e ∙ ap sound (q .is) ∙ q .sound-is }
+  month-ready whole = record { whole = whole; sound-is = ap sound (q .is) ∙ q .sound-is }
 
   pub month-carried : (vs s′ : List ℕ) {n : ℕ} {after : Record} → Carried (bookIn s) (blocks vs ++ (closing 9 ∷ [])) (answered n s′) → after ≡ recordOf (decode 8 719 s′)
       → Carried (opened agreementA) (calls vs) (record { number = n; after = after })
   unfolding calls
-  month-carried vs s′ {n} {after} k loaded =
-      rw loaded (carried-then (scheduled q) refl (subst (λ (x : Record). Carried (figures x) (blocks vs ++ (closing 9 ∷ [])) (answered n s′)) e k))
+  month-carried vs s′ k loaded = rw loaded (carried-then (scheduled q) refl k)

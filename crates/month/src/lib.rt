@@ -1,7 +1,11 @@
 // The calls of program `wheel`: agreement A, each line of a table as a block under it, and the closing. They work on the record's bytes: by
 // value the record would be copied with every line.
-// A function with a `requires` is called by this crate only, and meets it.
+// A function with a `requires` is called in this crate only, where it is met.
+ghost use mathlib.Core.Path.{_≡_};
 ghost use mathlib.Core.List.{[], _∷_, _++_};
+ghost use lib.ListN.{length};
+ghost use Rattle.codec.specs.Bytes.{decode};
+ghost use Rattle.record.specs.Words.{recordOf};
 ghost use Rattle.layout_rules.specs.OnBytes.{bookIn};
 ghost use Rattle.agreement_rules.specs.Opening.{opened};
 ghost use Rattle.unit.specs.Calls.{Call, bookAfter};
@@ -9,20 +13,18 @@ ghost use Rattle.unit.specs.AgreementA.{agreementA, scheduleA};
 ghost use Rattle.report_rules.specs.Display.{blocks, calls};
 ghost use Rattle.month.specs.Carried.{Holds, Carried, Ready, answered};
 use record::Answer;
-use record::Record;
 
 // Agreement A, opened and scheduled: no number applies to either call, so neither can be refused.
-fn agreement_a() -> Record
-    ensures { λ r. ⌜ Holds r (bookAfter (opened agreementA) (scheduleA ∷ [])) ⌝ }
+fn agreement_a(s: &mut [u8])
+    requires { ⌜ length (now s) ≡ 5752 ⌝ }
+    ensures { λ _. ⌜ Holds (recordOf (decode 8 719 (now (s .exit)))) (bookAfter (opened agreementA) (scheduleA ∷ [])) ⌝ }
 {
     let generators = [1, 1_000, 800];
     let pairs = [1, 1, 1_000, 500];
-    let opened = opening::opening(1, 2, 1_000, 2, 0, &generators, &pairs);
-    let start = opened.after;
+    opening::opening_on(1, 2, 1_000, 2, 0, &generators, &pairs, s);
     let kws = [100, 200];
     let ranks = [1, 1];
-    let scheduled = schedule::schedule(start, &kws, &ranks);
-    scheduled.after
+    schedule::schedule_on(s, &kws, &ranks);
 }
 
 // One line as a block: the entry reading e, the exit readings r1 and r2.
@@ -76,9 +78,8 @@ fn enter_and_close(s: &mut [u8], values: &[u32]) -> u32
 pub fn month(values: &[u32]) -> Answer
     ensures { λ a. ⌜ Carried (opened agreementA) (calls (now (values .entry))) a ⌝ }
 {
-    let start = agreement_a();
     let mut s = [0u8; 5752];
-    storing::store(start, &mut s);
+    agreement_a(&mut s);
     let number = enter_and_close(&mut s, values);
     let after = loading::load(&s);
     Answer { number, after }
