@@ -304,7 +304,7 @@ def tested_in(crate):
 def must_fail_edits():
     """The must-fail edits that change code under test: name, what is tested, {file: pairs}."""
     for crate in dict.fromkeys(CALLS.crates() + READER.crates()):
-        for path in sorted((REPOSITORY / "crates" / crate / "must-fail").rglob("*.edit")):
+        for path in sorted((REPOSITORY / "crates" / crate / "must-fail").glob("*.edit")):
             files, file, old = {}, None, None
             for line in path.read_text().splitlines():
                 if line.startswith("file: "):

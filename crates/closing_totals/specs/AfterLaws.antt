@@ -28,11 +28,11 @@ use Rattle.layout_rules.specs.Places.{terms-places, counts-places}
 use Rattle.layout_rules.specs.Kept.{record-shape, read-kept, numbers-low}
 use Rattle.layout_rules.specs.OnBytes.{bookIn}
 use Rattle.raising.specs.Raise.{rowSum, columnSum, Raisable}
-use Rattle.closing_rules.specs.Closing.{charge, drawn, supplied, lapses, goneAfter, lapsed, bankAfter, generatorAfterClosing, consumerAfterClosing, afterClosing, closingLength, closingOutput}
+use Rattle.closing_rules.specs.Closing.{charge, drawn, supplied, goneAfter, lapsed, bankAfter, generatorAfterClosing, consumerAfterClosing, afterClosing, closingLength, closingOutput}
 use Rattle.closing_rules.specs.ClosingOutput.{closing-length, drawn-at, charge-at, lapsed-at, bank-at, supplied-at}
 use Rattle.closing_steps.specs.Beyond.{bank-beyond, pending-beyond, charge-beyond, given-beyond, lapsed-beyond, bank-after-beyond, open-beyond, taken-beyond, supplied-beyond}
 use Rattle.closing_steps.specs.RoomLaws.{closing-output-moderate}
-use Rattle.closing_totals.specs.Totals.{monthsGone, countsAfter, totalsRaised, stocksReplaced, ClosingLists, Listed}
+use Rattle.closing_totals.specs.Totals.{countsAfter, totalsRaised, stocksReplaced, ClosingLists, Listed}
 
 -- the first seven numbers, with other months gone and no block in the month
 counted : (xs : List ℕ) (gone : ℕ) → length xs ≡ 7 →
@@ -71,18 +71,13 @@ module _ (s out : List ℕ) (f : Facts (bookIn s)) (is : out ≡ closingOutput (
   counts-after : List (List ℕ)
   counts-after = let t = r .terms in set (cut runLengths ws) 0 (t .generators ∷ t .consumers ∷ t .rate ∷ t .cycle ∷ goneAfter b ∷ r .counts .blocks ∷ 0 ∷ [])
 
-  gone-is : monthsGone (getD ws 4 0) (getD ws 3 0) ≡ goneAfter b
-  unfolding monthsGone goneAfter lapses figures
-  gone-is = rw (terms-places ws, counts-places ws)
-
   runs-counts : cut runLengths (countsAfter ws) ≡ counts-after
   unfolding counts-after countsAfter recordOf fromRuns runLengths cut total
   runs-counts =
-      let gone = monthsGone (getD ws 4 0) (getD ws 3 0) in
+      let gone = goneAfter b in
       set-run runLengths (set ws 4 gone) 0 6 0 (omega arith) ∙
       ap (λ (xss : List (List ℕ)). set xss 0 (set (getD xss 0 []) 6 0)) (set-run runLengths ws 0 4 gone (omega arith)) ∙
-      ap (set (cut runLengths ws) 0)
-      (ap (λ (k : ℕ). set (set (take 7 ws) 4 k) 6 0) gone-is ∙ counted (take 7 ws) (goneAfter b) (length-take-le 7 ws (omega (arith, length-decode 8 719 s))))
+      ap (set (cut runLengths ws) 0) (counted (take 7 ws) gone (length-take-le 7 ws (omega (arith, length-decode 8 719 s))))
 
   totals-after : List (List ℕ)
   totals-after =
@@ -195,8 +190,8 @@ module _ {s out : List ℕ} (h : Listed s out) where
                   omega (
                     arith,
                     ap (λ (ws : List ℕ). getD ws k 0) e,
-                    getD-set-other (set (decode 8 719 s) 4 (monthsGone (getD (decode 8 719 s) 4 0) (getD (decode 8 719 s) 3 0))) 6 k 0 0 (λ x. omega arith),
-                    getD-set-other (decode 8 719 s) 4 k (monthsGone (getD (decode 8 719 s) 4 0) (getD (decode 8 719 s) 3 0)) 0 (λ x. omega arith),
+                    getD-set-other (set (decode 8 719 s) 4 (goneAfter (bookIn s))) 6 k 0 0 (λ x. omega arith),
+                    getD-set-other (decode 8 719 s) 4 k (goneAfter (bookIn s)) 0 (λ x. omega arith),
                     numbers-low (decode 8 719 s) (length-decode 8 719 s) (h .sound) k,
                   );
             };

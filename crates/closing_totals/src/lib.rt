@@ -4,6 +4,7 @@ ghost use mathlib.Core.Path.{_≡_};
 ghost use Prim.Native.Nat.{_+_, _≤_};
 ghost use lib.Dec.{eqb};
 ghost use lib.ListN.{length, getD};
+ghost use Rattle.lists.specs.Choice.{if_then_else_};
 ghost use Rattle.arrays.specs.Bounds.{mostFigure};
 ghost use Rattle.codec.specs.Bytes.{encode, decode};
 ghost use Rattle.record.specs.Stored.{stored};
@@ -11,7 +12,7 @@ ghost use Rattle.record.specs.Words.{words};
 ghost use Rattle.layout_rules.specs.OnBytes.{bookIn};
 ghost use Rattle.raising.specs.Raise.{Raisable};
 ghost use Rattle.closing_rules.specs.Closing.{afterClosing};
-ghost use Rattle.closing_totals.specs.Totals.{monthsGone, countsAfter, totalsRaised, stocksReplaced, ClosingLists, Listed};
+ghost use Rattle.closing_totals.specs.Totals.{countsAfter, totalsRaised, stocksReplaced, ClosingLists, Listed};
 
 // Whether the month that closes is the last of its cycle.
 pub fn cycle_ends(gone: u64, cycle: u64) -> bool
@@ -24,7 +25,7 @@ pub fn cycle_ends(gone: u64, cycle: u64) -> bool
 // Months gone after the closing; a new cycle starts at 0.
 fn months_gone(gone: u64, cycle: u64) -> u64
     requires { ⌜ gone ≤ 12 ⌝ }
-    ensures { λ r. ⌜ r ≡ monthsGone gone cycle ⌝ }
+    ensures { λ r. ⌜ r ≡ (if eqb (gone + 1) cycle then 0 else gone + 1) ⌝ }
 {
     if cycle_ends(gone, cycle) { 0 } else { gone + 1 }
 }

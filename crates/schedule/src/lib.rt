@@ -64,6 +64,7 @@ pub fn schedule_on(s: &mut [u8], kws: &[u32], ranks: &[u32]) -> u32
     number
 }
 
+// Gives a unit a schedule: a kW figure and a rank a pair, which replace the former ones whole.
 pub fn schedule(r: record::Record, kws: &[u32], ranks: &[u32]) -> record::Answer
     ensures { λ a. ⌜ Scheduled r (now (kws .entry)) (now (ranks .entry)) a ⌝ }
 {

@@ -1,6 +1,5 @@
--- `closing_totals::months_gone` meets its contract: they start again at the end of a cycle.
+-- `closing_totals::months_gone` meets its contract: they start again at the end of a cycle. Assumes nothing.
 use mathlib.Core.Path.{_∙_, sym}
-use Rattle.closing_totals.specs.Totals.{monthsGone}
 use borrow.Author.Needs.{needs}
 use Rattle.closing_totals.proofs.months_gone.Statement.{statement}
 use Rattle.closing_totals.proofs.months_gone.Tie as tie
@@ -12,11 +11,9 @@ add-result : tie.Need-add-result
 add-result c = search needs
 
 returns : tie.Need-returns
-unfolding monthsGone
 returns c = rw (sym (c .before .cycle-ends .ensures) ∙ c .if1 .taken)
 
 returns-2 : tie.Need-returns-2
-unfolding monthsGone
 returns-2 c = rw (sym (c .before .cycle-ends .ensures) ∙ c .if1 .left)
 
 pub months-gone-spec : {M : Type 1} → statement M

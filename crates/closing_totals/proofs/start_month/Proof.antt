@@ -2,6 +2,7 @@
 use mathlib.Core.Path.{_∙_}
 use borrow.Author.Needs.{needs}
 use Rattle.closing_totals.specs.Totals.{countsAfter}
+use Rattle.closing_totals.specs.TotalsLaws.{gone-read}
 use Rattle.closing_totals.proofs.start_month.Statement.{statement}
 use Rattle.closing_totals.proofs.start_month.Tie as tie
 
@@ -25,7 +26,11 @@ same-length c = search needs
 
 returns : tie.Need-returns
 unfolding countsAfter
-returns c = c .before .before .put-at2 .ensures .0 ∙ rw (c .before .before .before .before .before .before .put-at .ensures .0, c .before .before .before .before .before .before .before .before .months-gone .ensures, c .before .before .before .before .before .before .before .before .before .before .before .number-at .ensures, c .before .before .before .before .before .before .before .before .before .number-at2 .ensures)
+returns c =
+    let emptied = c .before .before in
+    let entered = emptied .before .before .before .before in
+    let next = entered .before .before in
+    emptied .put-at2 .ensures .0 ∙ rw (entered .put-at .ensures .0, next .months-gone .ensures, next .before .before .before .number-at .ensures, next .before .number-at2 .ensures, gone-read)
 
 pub start-month-spec : {M : Type 1} → statement M
 start-month-spec =
