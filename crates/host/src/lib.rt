@@ -2,7 +2,7 @@
 // repository's crates only: what a function requires, its callers meet.
 ghost use mathlib.Core.Path.{_≡_};
 ghost use Prim.Native.Nat.{_*_, _≤_};
-ghost use lib.ListN.{length};
+ghost use lib.ListN.{length, take};
 ghost use Rattle.wheeling_rules.specs.Wheeling.{numbersIn};
 ghost use Rattle.wheeling_rules.specs.Reading.{Taken, Room, Written};
 
@@ -15,7 +15,7 @@ pub fn read_input(bytes: &[u8], out: &mut [u32]) -> usize
     let n = bytes.len() / 4;
     if bytes.len() % 4 == 0 {
         if n < out.len() {
-            codec::read4(bytes, &mut out[0..n]);
+            codec::read4(bytes, &mut out[..n]);
             return n;
         }
     }
@@ -36,13 +36,13 @@ pub fn room(bytes: &[u8], most: usize) -> usize
     most
 }
 
-// Writes the output of an accepted call; returns the call's number.
-pub fn give(refusal: u32, out: &[u64], output: &mut [u8]) -> u32
-    requires { ⌜ (refusal ≡ 0 → length (now output) ≡ 8 * length (now out)) ⌝ }
-    ensures { λ r. ⌜ Written refusal (now (out .entry)) (now (output .entry)) r (now (output .exit)) ⌝ }
+// Writes the output of an accepted call, the first n numbers of `out`; returns the call's number.
+pub fn give(refusal: u32, out: &[u64], n: usize, output: &mut [u8]) -> u32
+    requires { ⌜ (n ≤ length (now out)) × (refusal ≡ 0 → length (now output) ≡ 8 * n) ⌝ }
+    ensures { λ r. ⌜ Written refusal (take n (now (out .entry))) (now (output .entry)) r (now (output .exit)) ⌝ }
 {
     if refusal == 0 {
-        codec::write8(out, output);
+        codec::write8(&out[..n], output);
         return 0;
     }
     refusal

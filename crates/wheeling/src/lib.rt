@@ -3,33 +3,19 @@ ghost use mathlib.Core.Path.{_≡_};
 ghost use lib.ListN.{length};
 ghost use Rattle.layout_rules.specs.OnBytes.{recordIn};
 ghost use Rattle.block_rules.specs.Block.{Blocked};
-ghost use Rattle.closing_rules.specs.Closing.{Closed};
-ghost use Rattle.wheeling_rules.specs.Reading.{Fits};
-ghost use Rattle.wheeling_rules.specs.Wheeling.{Done, openingIn, ByteOpened, ByteScheduled, ByteBlocked, ByteClosed};
+ghost use Rattle.wheeling_rules.specs.Wheeling.{numbersIn, Done, openingIn, ByteOpened, ByteScheduled, ByteBlocked, ByteClosed};
 
 const RECORD_BYTES: usize = 5752;
 
-// A block whose lists are read; `out` is room for its output as numbers.
-fn block_on_numbers(
-    bytes: &mut [u8],
-    entry: &[u32],
-    exit: &[u32],
-    out: &mut [u64],
-    output: &mut [u8],
-) -> u32
-    requires { ⌜ (length (now bytes) ≡ 5752) × Fits 537 (length (now out)) (now output) ⌝ }
-    ensures { λ r. ⌜ Done (Blocked (recordIn (now (bytes .entry))) (now (entry .entry)) (now (exit .entry)) (now (out .entry))) (now (bytes .entry)) (now (output .entry)) r (now (bytes .exit)) (now (output .exit)) ⌝ }
+// A block whose inputs are read: its output is made as numbers, and written where it is accepted.
+fn block_on_inputs(bytes: &mut [u8], entry: &[u32], exit: &[u32], output: &mut [u8]) -> u32
+    requires { ⌜ length (now bytes) ≡ 5752 ⌝ }
+    ensures { λ r. ⌜ Done (Blocked (recordIn (now (bytes .entry))) (now (entry .entry)) (now (exit .entry)) (numbersIn 8 (now (output .entry)))) (now (bytes .entry)) (now (output .entry)) r (now (bytes .exit)) (now (output .exit)) ⌝ }
 {
-    let number = block::block_on(bytes, entry, exit, out);
-    host::give(number, out, output)
-}
-
-fn close_on_numbers(bytes: &mut [u8], out: &mut [u64], output: &mut [u8]) -> u32
-    requires { ⌜ (length (now bytes) ≡ 5752) × Fits 185 (length (now out)) (now output) ⌝ }
-    ensures { λ r. ⌜ Done (Closed (recordIn (now (bytes .entry))) (now (out .entry))) (now (bytes .entry)) (now (output .entry)) r (now (bytes .exit)) (now (output .exit)) ⌝ }
-{
-    let number = closing::close_on(bytes, out);
-    host::give(number, out, output)
+    let mut out = [0u64; 537];
+    let n = host::room(output, 537);
+    let number = block::block_on(bytes, entry, exit, &mut out[..n]);
+    host::give(number, &out, n, output)
 }
 
 #[no_mangle]
@@ -56,8 +42,8 @@ pub extern "C" fn wheeling_open(
             rate,
             cycle,
             gone,
-            &agreed[0..n],
-            &pairs[0..m],
+            &agreed[..n],
+            &pairs[..m],
             record,
         );
     }
@@ -73,7 +59,7 @@ pub extern "C" fn wheeling_schedule(record: &mut [u8], kw_list: &[u8], rank_list
         let n = host::read_input(kw_list, &mut kw);
         let mut ranks = [0u32; 129];
         let m = host::read_input(rank_list, &mut ranks);
-        return schedule::schedule_on(record, &kw[0..n], &ranks[0..m]);
+        return schedule::schedule_on(record, &kw[..n], &ranks[..m]);
     }
     1
 }
@@ -92,9 +78,7 @@ pub extern "C" fn wheeling_block(
         let n = host::read_input(entry_list, &mut entry);
         let mut exit = [0u32; 17];
         let m = host::read_input(exit_list, &mut exit);
-        let mut out = [0u64; 537];
-        let k = host::room(output, 537);
-        return block_on_numbers(record, &entry[0..n], &exit[0..m], &mut out[0..k], output);
+        return block_on_inputs(record, &entry[..n], &exit[..m], output);
     }
     1
 }
@@ -105,8 +89,9 @@ pub extern "C" fn wheeling_close(record: &mut [u8], output: &mut [u8]) -> u32
 {
     if record.len() == RECORD_BYTES {
         let mut out = [0u64; 185];
-        let k = host::room(output, 185);
-        return close_on_numbers(record, &mut out[0..k], output);
+        let n = host::room(output, 185);
+        let number = closing::close_on(record, &mut out[..n]);
+        return host::give(number, &out, n, output);
     }
     1
 }

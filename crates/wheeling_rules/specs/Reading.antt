@@ -22,13 +22,10 @@ pub record Taken (ys : List ℕ) (k n : ℕ) (out : List ℕ) : Type 0 where
   pub size : length out ≡ k
   pub alike : Alike k (take n out) ys
 
--- the output's bytes are n numbers, where n is less than k
-abbrev pub Fits : (k n : ℕ) (lent : List ℕ) → Type 0
-Fits k n lent = n < k → length lent ≡ 8 * n
-
+-- the output's bytes have room for n numbers, or more than any agreement takes
 pub record Room (lent : List ℕ) (k n : ℕ) : Type 0 where
   pub within : n ≤ k
-  pub fits : Fits k n lent
+  pub fits : n < k → length lent ≡ 8 * n
   pub alike : AlikeSize k n (length (numbersIn 8 lent))
 
 -- an accepted call's record is stored

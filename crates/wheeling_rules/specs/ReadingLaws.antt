@@ -1,14 +1,14 @@
 -- Bytes read as numbers: whole counts, too many, and no whole count. Assumes nothing.
-use Prim.Native.Nat.{ℕ, _-_, _/_, _%_, _^_, _≤_, _<_}
+use Prim.Native.Nat.{ℕ, _*_, _/_, _%_, _^_, _≤_, _<_}
 use mathlib.Core.Path.{_≡_, refl, sym, ap, _∙_}
 use mathlib.Core.Bool.{Bool, true, false}
-use mathlib.Core.List.{List, []}
+use mathlib.Core.List.{List, [], _++_}
 use mathlib.Core.Logic.{inl, inr}
 use native.Mathlib.Omega.{arith}
 use borrow.Author.Tests.{eqb-true, eq-eqb, ne-eqb}
-use borrow.Rule.Slice.PartMut.{putMid, midOf, postOf, mid-len, same-len-mid}
+use borrow.Table.Elements.{same-len}
 use lib.Dec.{eqb}
-use lib.ListN.{length, take}
+use lib.ListN.{length, take, drop}
 use lib.Seq.{length-take-le, take-at}
 use Rattle.lists.specs.Choice.{if_then_else_}
 use Rattle.lists.specs.Tables.{length-table}
@@ -16,7 +16,7 @@ use Rattle.codec.specs.Bytes.{encode, decode}
 use Rattle.codec.specs.BytesLaws.{Below, length-encode, length-decode, decode-encode}
 use Rattle.layout_rules.specs.OnBytes.{bytesAfter}
 use Rattle.wheeling_rules.specs.Wheeling.{numbersIn}
-use Rattle.wheeling_rules.specs.Reading.{AlikeSize, Alike, Taken, Fits, Room, Written}
+use Rattle.wheeling_rules.specs.Reading.{AlikeSize, Taken, Room, Written}
 
 module _ (w : ℕ) (bytes : List ℕ) where
   pub numbers-whole : length bytes % w ≡ 0 → numbersIn w bytes ≡ decode w (length bytes / w) bytes
@@ -31,24 +31,16 @@ module _ (w : ℕ) (bytes : List ℕ) where
   count-broken e = rw (ne-eqb (length bytes % w) 0 e) (length-table 1_000 (λ i. 0))
 
 module _ (bytes out : List ℕ) {k : ℕ} (size : length out ≡ k) where
-  taken-read : {n : ℕ} {ys : List ℕ} → length bytes % 4 ≡ 0 → n ≡ length bytes / 4 → n < k → ys ≡ decode 4 n bytes → Taken (numbersIn 4 bytes) k n (putMid 0 n out ys)
+  -- the codec is lent the first n places
+  pub taken-read : {n : ℕ} {ys : List ℕ} → length bytes % 4 ≡ 0 → n ≡ length bytes / 4 → n < k → ys ≡ decode 4 (length (take n out)) bytes → Taken (numbersIn 4 bytes) k n (ys ++ drop n out)
   taken-read {n} {ys} e q l d =
-      let here : length ys ≡ n = ap length d ∙ length-decode 4 n bytes in
-      let whole : n - 0 ≡ n = omega arith in
-      let lent : length (midOf 0 n out) ≡ n = rw whole at (mid-len 0 n out (omega arith)) in
+      let lent : length (take n out) ≡ n = length-take-le n out (omega arith) in
+      let here : length ys ≡ n = ap length d ∙ length-decode 4 (length (take n out)) bytes ∙ lent in
       record {
         within = omega arith;
-        size = same-len-mid 0 n out ys (here ∙ sym lent) ∙ size;
-        alike = inl (take-at ys (postOf 0 n out) n here ∙ d ∙ ap (λ (i : ℕ). decode 4 i bytes) q ∙ sym (numbers-whole 4 bytes e));
+        size = same-len n out ys (here ∙ sym lent) ∙ size;
+        alike = inl (take-at ys (drop n out) n here ∙ d ∙ ap (λ (i : ℕ). decode 4 i bytes) (lent ∙ q) ∙ sym (numbers-whole 4 bytes e));
       }
-
-  -- the slice lent to the codec starts at place 0
-  pub taken-lent : {n : ℕ} {ys : List ℕ} → length bytes % 4 ≡ 0 → n ≡ length bytes / 4 → n < k → ys ≡ decode 4 (length (midOf 0 (n - 0) out)) bytes →
-      Taken (numbersIn 4 bytes) k n (putMid 0 (n - 0) out ys)
-  taken-lent {n} {ys} e q l d =
-      let whole : n - 0 ≡ n = omega arith in
-      let lent : length (midOf 0 (n - 0) out) ≡ n = mid-len 0 n out (omega arith) ∙ whole in
-      rw whole (taken-read e q l (rw lent at d))
 
   taken-all : k ≤ length (numbersIn 4 bytes) → Taken (numbersIn 4 bytes) k k out
   taken-all h = record { within = omega arith; size = size; alike = inr (omega (arith, length-take-le k out (omega arith)), h) }
@@ -58,10 +50,6 @@ module _ (bytes out : List ℕ) {k : ℕ} (size : length out ≡ k) where
 
   pub taken-broken : k ≤ 1_000 → (length bytes % 4 ≡ 0 → ⊥) → Taken (numbersIn 4 bytes) k k out
   taken-broken h e = taken-all (omega (arith, count-broken 4 bytes e))
-
--- the numbers read are lent on from place 0
-pub lent-alike : {ys out : List ℕ} {k n : ℕ} → Taken ys k n out → Alike k (take (n - 0) out) ys
-lent-alike {n = n} t = let whole : n - 0 ≡ n = omega arith in rw whole (t .alike)
 
 module _ (lent : List ℕ) {k : ℕ} where
   pub room-whole : {n : ℕ} → length lent % 8 ≡ 0 → n ≡ length lent / 8 → n < k → Room lent k n
@@ -76,13 +64,25 @@ module _ (lent : List ℕ) {k : ℕ} where
   pub room-broken : k ≤ 1_000 → (length lent % 8 ≡ 0 → ⊥) → Room lent k k
   room-broken h e = room-none (omega (arith, count-broken 8 lent e))
 
--- an output lent with n places
-module _ {lent : List ℕ} {k n : ℕ} (h : Room lent k n) (size : ℕ) (same : size ≡ n - 0) where
-  pub room-fits : Fits k size lent
-  room-fits l = omega (arith, h .fits (omega arith))
+-- a call is lent the first n of k numbers for its output
+module _ (out : List ℕ) {lent : List ℕ} {k n : ℕ} (h : Room lent k n) (size : length out ≡ k) where
+  lent-size : length (take n out) ≡ n
+  lent-size = length-take-le n out (omega (arith, h .within))
 
-  pub room-alike : AlikeSize k size (length (numbersIn 8 lent))
-  room-alike = let whole : size ≡ n = omega arith in rw whole (h .alike)
+  pub room-fits : length (take n out) < k → length lent ≡ 8 * n
+  room-fits l = h .fits (omega (arith, lent-size))
+
+  pub room-alike : AlikeSize k (length (take n out)) (length (numbersIn 8 lent))
+  room-alike = rw lent-size (h .alike)
+
+  pub left-size : (ys : List ℕ) → length ys ≡ length (take n out) → length (ys ++ drop n out) ≡ k
+  left-size ys e = same-len n out ys e ∙ size
+
+  pub left-room : (ys : List ℕ) → length ys ≡ length (take n out) → n ≤ length (ys ++ drop n out)
+  left-room ys e = omega (arith, h .within, left-size ys e)
+
+  pub left-there : {ys : List ℕ} → length ys ≡ length (take n out) → take n (ys ++ drop n out) ≡ ys
+  left-there {ys} e = take-at ys (drop n out) n (e ∙ lent-size)
 
 module _ {out lent : List ℕ} {refusal : ℕ} where
   pub written-accepted : {lent′ : List ℕ} → refusal ≡ 0 → lent′ ≡ encode 8 out → Written refusal out lent 0 lent′

@@ -2,13 +2,13 @@
 use Prim.Native.Nat.{ℕ, _*_, _≤_, _<_}
 use mathlib.Core.Path.{_≡_, refl, sym, ap, _∙_, subst}
 use mathlib.Core.Bool.{Bool, true, false, true≢false}
-use mathlib.Core.List.{List, []}
+use mathlib.Core.List.{List, [], _++_}
 use mathlib.Core.Logic.{_⊎_, inl, inr, ⊎-elim}
 use native.Mathlib.Omega.{arith}
 use native.Mathlib.Nat.{mul-le-mul}
 use borrow.Author.Tests.{eqb-true, eq-eqb}
 use lib.Dec.{eqb}
-use lib.ListN.{length}
+use lib.ListN.{length, take, drop}
 use Rattle.lists.specs.Choice.{if_then_else_}
 use Rattle.codec.specs.Bytes.{encode}
 use Rattle.record.specs.Words.{words}
@@ -30,8 +30,8 @@ use Rattle.closing_rules.specs.Closing.{closingLength, closingRefusal, closingR
 use Rattle.closing_rules.specs.ClosingLaws.{closing-sized}
 use Rattle.layout_rules.specs.OnBytes.{recordIn, bytesAfter, CalledOn}
 use Rattle.wheeling_rules.specs.Wheeling.{recordBytes, numbersIn, Stored, Done, OnBytes, openingIn, ByteOpened, ByteScheduled, ByteBlocked, ByteClosed}
-use Rattle.wheeling_rules.specs.ReadingLaws.{after-same, no-bytes}
-use Rattle.wheeling_rules.specs.Reading.{AlikeSize, Alike, Kept, Made, Written}
+use Rattle.wheeling_rules.specs.ReadingLaws.{room-fits, room-alike, left-there, after-same, no-bytes}
+use Rattle.wheeling_rules.specs.Reading.{AlikeSize, Alike, Room, Kept, Made, Written}
 
 -- ---- a call does not tell lists apart that are too long for it
 
@@ -144,13 +144,13 @@ module _ (r : Record) where
       let s = accepted-sound rule r accepted in
       (record-facts r s, sym (number-sound rule r s) ∙ accepted)
 
-  pub block-room : (entry exit : List ℕ) {lent out : List ℕ} {a : Answer} → Blocked r entry exit lent a out → a .number ≡ 0 → length lent < 537
+  block-room : (entry exit : List ℕ) {lent out : List ℕ} {a : Answer} → Blocked r entry exit lent a out → a .number ≡ 0 → length lent < 537
   unfolding blockRule
   block-room entry exit {lent} c z =
       let f = accepted-facts c z in
       ⊎-elim (λ (e : blockRefusal entry exit (length lent) (figures r) ≡ 2). absurd (omega (arith, f .1))) (λ t. omega (arith, block-few (f .0))) (block-sized entry exit (length lent) (figures r))
 
-  pub closing-room : {lent out : List ℕ} {a : Answer} → Closed r lent a out → a .number ≡ 0 → length lent < 185
+  closing-room : {lent out : List ℕ} {a : Answer} → Closed r lent a out → a .number ≡ 0 → length lent < 185
   unfolding closingRule
   closing-room {lent} c z =
       let f = accepted-facts c z in
@@ -188,7 +188,7 @@ made {rule} {bytes} {n = n} c = (
   ),
 )
 
-pub done : {rule : Rule} {r : Record} {numbers out bytes lent bytes′ lent′ : List ℕ} {a : Answer} {n m : ℕ} →
+done : {rule : Rule} {r : Record} {numbers out bytes lent bytes′ lent′ : List ℕ} {a : Answer} {n m : ℕ} →
     Called rule r numbers (a .number) (a .after) out → Kept a bytes n bytes′ → Written n out lent m lent′ →
     Done (λ (a : Answer) (out : List ℕ). Called rule r numbers (a .number) (a .after) out) bytes lent m bytes′ lent′
 done {out = out} {bytes} {lent} {bytes′} {lent′} {a} {n} {m} c k w =
@@ -230,6 +230,12 @@ stored-same {a} {out} {bytes} {lent} {bytes′} {lent′} {n} out′ e s =
     go true q p = p ∙ ap (encode 8) (e (sym (s .number-is) ∙ eqb-true n 0 q))
     go false q p = p
 
+-- the call by another rule that is the same on the record, with any slice lent
+done-moved : {rule rule′ : Rule} {bytes numbers lent bytes′ lent′ : List ℕ} {n : ℕ} → SameOn (recordIn bytes) rule rule′ → (numbers′ : List ℕ) →
+    Done (λ (a : Answer) (out : List ℕ). Called rule (recordIn bytes) numbers (a .number) (a .after) out) bytes lent n bytes′ lent′ →
+    Done (λ (a : Answer) (out : List ℕ). Called rule′ (recordIn bytes) numbers′ (a .number) (a .after) out) bytes lent n bytes′ lent′
+done-moved {bytes = bytes} same numbers′ (a, (out, (c, s))) = let m = moved (recordIn bytes) same c numbers′ in (a, (_, (m .0, stored-same _ (m .1) s)))
+
 module _ {refusal : ℕ} {ensured : Answer → List ℕ → Type 0} {bytes lent : List ℕ} where
   on-whole : {number : ℕ} {bytes′ lent′ : List ℕ} → length bytes ≡ recordBytes → Done ensured bytes lent number bytes′ lent′ → OnBytes refusal ensured bytes lent number bytes′ lent′
   on-whole l d = record { whole = λ _. d; other = λ ne. absurd (ne l) }
@@ -256,16 +262,34 @@ pub schedule-on-bytes : (kws ranks : List ℕ) {xs ys bytes bytes′ : List ℕ}
     ByteScheduled bytes kws ranks n bytes′
 schedule-on-bytes kws ranks {bytes = bytes} l x y c k = on-whole l (done-silent (silent (numbersIn 4 kws) (numbersIn 4 ranks) (moved (recordIn bytes) (schedule-same (recordIn bytes) x y) c [] .0)) k)
 
-pub block-on-bytes : (entry exit : List ℕ) {xs ys zs bytes lent bytes′ lent′ : List ℕ} {n : ℕ} → length bytes ≡ recordBytes →
-    Alike 9 xs (numbersIn 4 entry) → Alike 17 ys (numbersIn 4 exit) → AlikeSize 537 (length zs) (length (numbersIn 8 lent)) →
-    Done (Blocked (recordIn bytes) xs ys zs) bytes lent n bytes′ lent′ → ByteBlocked bytes entry exit lent n bytes′ lent′
-block-on-bytes entry exit {bytes = bytes} {lent} l x y z (a, (out, (c, s))) =
-    let m = moved (recordIn bytes) (block-same (recordIn bytes) x y z) c (numbersIn 8 lent) in
-    on-whole l (a, (_, (m .0, stored-same _ (m .1) s)))
+-- a call that was lent the first n of k numbers, and its output written
+module _ (out : List ℕ) {k : ℕ} {rule : Rule} {bytes lent bytes′ ys : List ℕ} {n number : ℕ} (h : Room lent k n) (size : length out ≡ k)
+    (c : CalledOn rule bytes (take n out) number bytes′ ys) (e : length ys ≡ length (take n out)) where
+  written-moved : {rule′ : Rule} {m : ℕ} {lent′ : List ℕ} → SameOn (recordIn bytes) rule rule′ → Written number (take n (ys ++ drop n out)) lent m lent′ →
+      Done (λ (a : Answer) (out : List ℕ). Called rule′ (recordIn bytes) (numbersIn 8 lent) (a .number) (a .after) out) bytes lent m bytes′ lent′
+  written-moved {m = m} {lent′} same w =
+      let a = made c in
+      done-moved same (numbersIn 8 lent) (done (a .1 .0) (a .1 .1) (subst (λ (xs : List ℕ). Written number xs lent m lent′) (left-there out h size e) w))
 
-pub closing-on-bytes : {zs bytes lent bytes′ lent′ : List ℕ} {n : ℕ} → length bytes ≡ recordBytes →
-    AlikeSize 185 (length zs) (length (numbersIn 8 lent)) →
-    Done (Closed (recordIn bytes) zs) bytes lent n bytes′ lent′ → ByteClosed bytes lent n bytes′ lent′
-closing-on-bytes {bytes = bytes} {lent} l z (a, (out, (c, s))) =
-    let m = moved (recordIn bytes) (closing-same (recordIn bytes) z) c (numbersIn 8 lent) in
-    on-whole l (a, (_, (m .0, stored-same _ (m .1) s)))
+module _ (entry exit out : List ℕ) {bytes lent bytes′ ys : List ℕ} {n number : ℕ} (h : Room lent 537 n) (size : length out ≡ 537)
+    (c : CalledOn (blockRule entry exit (length (take n out))) bytes (take n out) number bytes′ ys) where
+  pub block-fits : number ≡ 0 → length lent ≡ 8 * n
+  block-fits z = let a = made c in room-fits out h size (block-room (recordIn bytes) entry exit (a .1 .0) (sym (a .1 .1 .number-is) ∙ z))
+
+  pub block-written : {m : ℕ} {lent′ : List ℕ} → length ys ≡ length (take n out) → Written number (take n (ys ++ drop n out)) lent m lent′ →
+      Done (Blocked (recordIn bytes) entry exit (numbersIn 8 lent)) bytes lent m bytes′ lent′
+  block-written e w = written-moved out h size c e (block-same (recordIn bytes) (inl refl) (inl refl) (room-alike out h size)) w
+
+module _ (out : List ℕ) {bytes lent bytes′ ys : List ℕ} {n number : ℕ} (h : Room lent 185 n) (size : length out ≡ 185)
+    (c : CalledOn (closingRule (length (take n out))) bytes (take n out) number bytes′ ys) where
+  pub closing-fits : number ≡ 0 → length lent ≡ 8 * n
+  closing-fits z = let a = made c in room-fits out h size (closing-room (recordIn bytes) (a .1 .0) (sym (a .1 .1 .number-is) ∙ z))
+
+  pub closing-on-bytes : {m : ℕ} {lent′ : List ℕ} → length bytes ≡ recordBytes → length ys ≡ length (take n out) → Written number (take n (ys ++ drop n out)) lent m lent′ →
+      ByteClosed bytes lent m bytes′ lent′
+  closing-on-bytes l e w = on-whole l (written-moved out h size c e (closing-same (recordIn bytes) (room-alike out h size)) w)
+
+pub block-on-bytes : (entry exit : List ℕ) {xs ys bytes lent bytes′ lent′ : List ℕ} {n : ℕ} → length bytes ≡ recordBytes →
+    Alike 9 xs (numbersIn 4 entry) → Alike 17 ys (numbersIn 4 exit) →
+    Done (Blocked (recordIn bytes) xs ys (numbersIn 8 lent)) bytes lent n bytes′ lent′ → ByteBlocked bytes entry exit lent n bytes′ lent′
+block-on-bytes entry exit {bytes = bytes} {lent} l x y d = on-whole l (done-moved (block-same (recordIn bytes) x y (inl refl)) (numbersIn 8 lent) d)

@@ -1,7 +1,7 @@
 -- `wheeling::wheeling_block` meets its contract: block on the record and the numbers that the bytes hold.
 use borrow.Author.Needs.{needs}
-use borrow.Rule.Slice.PartMut.{mid-len}
-use Rattle.wheeling_rules.specs.ReadingLaws.{lent-alike, room-alike, room-fits}
+use native.Mathlib.Omega.{arith}
+use lib.ListN.{length-take}
 use Rattle.wheeling_rules.specs.WheelingLaws.{block-on-bytes, on-other}
 use Rattle.wheeling.proofs.wheeling_block.Statement.{statement}
 use Rattle.wheeling.proofs.wheeling_block.Tie as tie
@@ -18,41 +18,20 @@ slice-aggregate-read-input-2 c = search needs
 read-input-requires-2 : tie.Need-read-input-requires-2
 read-input-requires-2 c κs = search needs
 
-room-requires : tie.Need-room-requires
-room-requires c κs = search needs
+array-share-prefix-entry : tie.Need-array-share-prefix-entry
+array-share-prefix-entry c = search needs
 
-sub-block-on-numbers : tie.Need-sub-block-on-numbers
-sub-block-on-numbers c = search needs
+slice-aggregate-block-on-inputs : tie.Need-slice-aggregate-block-on-inputs
+slice-aggregate-block-on-inputs c = simp length-take (omega (arith, c .before .before .before .before .before .before .read-input .ensures .within, c .before .before .before .before .before .before .read-input .ensures .size))
 
-part-block-on-numbers-start : tie.Need-part-block-on-numbers-start
-part-block-on-numbers-start c = search needs
+array-share-prefix-exit : tie.Need-array-share-prefix-exit
+array-share-prefix-exit c = search needs
 
-part-block-on-numbers-end : tie.Need-part-block-on-numbers-end
-part-block-on-numbers-end c = search needs
+slice-aggregate-block-on-inputs-2 : tie.Need-slice-aggregate-block-on-inputs-2
+slice-aggregate-block-on-inputs-2 c = simp length-take (omega (arith, c .before .before .before .before .read-input2 .ensures .within, c .before .before .before .before .read-input2 .ensures .size))
 
-sub-block-on-numbers-2 : tie.Need-sub-block-on-numbers-2
-sub-block-on-numbers-2 c = search needs
-
-part-block-on-numbers-start-2 : tie.Need-part-block-on-numbers-start-2
-part-block-on-numbers-start-2 c = search needs
-
-part-block-on-numbers-end-2 : tie.Need-part-block-on-numbers-end-2
-part-block-on-numbers-end-2 c = search needs
-
-sub-block-on-numbers-3 : tie.Need-sub-block-on-numbers-3
-sub-block-on-numbers-3 c = search needs
-
-part-out-start : tie.Need-part-out-start
-part-out-start c = search needs
-
-part-out-end : tie.Need-part-out-end
-part-out-end c = search needs
-
-block-on-numbers-requires : tie.Need-block-on-numbers-requires
-block-on-numbers-requires c κs =
-    let counted = c .before .before .before .before .before .before .before in
-    let here = counted .before .before .before .before .before .before .before .before in
-    (here .if1 .taken, room-fits (counted .room .ensures) _ (mid-len 0 _ _ (search needs)))
+block-on-inputs-requires : tie.Need-block-on-inputs-requires
+block-on-inputs-requires c κs = search needs
 
 same-length : tie.Need-same-length
 same-length c = search needs
@@ -62,14 +41,10 @@ same-length-2 c = search needs
 
 returns : tie.Need-returns
 returns c =
-    let called = c .before .before .before .before .before in
-    let counted = called .before .before .before .before .before .before .before .before in
-    let second = counted .before .before .before in
+    let called = c .before .before .before .before in
+    let second = called .before .before .before .before .before .before in
     let first = second .before .before .before in
-    let here = first .before .before in
-    block-on-bytes _ _ (here .if1 .taken) (lent-alike (first .read-input .ensures)) (lent-alike (second .read-input2 .ensures))
-    (room-alike (counted .room .ensures) _ (mid-len 0 _ _ (counted .room .ensures .within)))
-    (called .block-on-numbers .ensures)
+    block-on-bytes _ _ (first .before .before .if1 .taken) (first .read-input .ensures .alike) (second .read-input2 .ensures .alike) (called .block-on-inputs .ensures)
 
 returns-2 : tie.Need-returns-2
 returns-2 c = on-other (c .if1 .left)
@@ -82,17 +57,11 @@ wheeling-block-spec =
     read-input-requires
     slice-aggregate-read-input-2
     read-input-requires-2
-    room-requires
-    sub-block-on-numbers
-    part-block-on-numbers-start
-    part-block-on-numbers-end
-    sub-block-on-numbers-2
-    part-block-on-numbers-start-2
-    part-block-on-numbers-end-2
-    sub-block-on-numbers-3
-    part-out-start
-    part-out-end
-    block-on-numbers-requires
+    array-share-prefix-entry
+    slice-aggregate-block-on-inputs
+    array-share-prefix-exit
+    slice-aggregate-block-on-inputs-2
+    block-on-inputs-requires
     same-length
     same-length-2
     returns

@@ -1,27 +1,35 @@
--- `wheeling::wheeling_close` meets its contract: closing on the record and the numbers that the bytes hold.
+-- `wheeling::wheeling_close` meets its contract: closing on the record that the bytes hold.
 use borrow.Author.Needs.{needs}
-use borrow.Rule.Slice.PartMut.{mid-len}
-use Rattle.wheeling_rules.specs.ReadingLaws.{room-alike, room-fits}
-use Rattle.wheeling_rules.specs.WheelingLaws.{closing-on-bytes, on-other}
+use native.Mathlib.Omega.{arith}
+use mathlib.Core.Path.{sym}
+use lib.ListN.{length-take}
+use Rattle.wheeling_rules.specs.ReadingLaws.{left-size, left-room}
+use Rattle.wheeling_rules.specs.WheelingLaws.{closing-fits, closing-on-bytes, on-other}
 use Rattle.wheeling.proofs.wheeling_close.Statement.{statement}
 use Rattle.wheeling.proofs.wheeling_close.Tie as tie
 
 room-requires : tie.Need-room-requires
 room-requires c κs = search needs
 
-sub-close-on-numbers : tie.Need-sub-close-on-numbers
-sub-close-on-numbers c = search needs
+array-borrow-prefix-out : tie.Need-array-borrow-prefix-out
+array-borrow-prefix-out c = search needs
 
-part-out-start : tie.Need-part-out-start
-part-out-start c = search needs
+slice-aggregate-close-on : tie.Need-slice-aggregate-close-on
+slice-aggregate-close-on c = simp length-take (omega (arith, c .before .before .room .ensures .within))
 
-part-out-end : tie.Need-part-out-end
-part-out-end c = search needs
+close-on-requires : tie.Need-close-on-requires
+close-on-requires c κs = search needs
 
-close-on-numbers-requires : tie.Need-close-on-numbers-requires
-close-on-numbers-requires c κs =
-    let counted = c .before .before .before in
-    (counted .before .before .if1 .taken, room-fits (counted .room .ensures) _ (mid-len 0 _ _ (search needs)))
+slice-aggregate-give : tie.Need-slice-aggregate-give
+slice-aggregate-give c =
+    let called = c .before .before .before .before in
+    sym (left-size _ (called .before .before .before .room .ensures) (search needs) (called .close-on .last .1 .0) (called .close-on .kept .1 .0))
+
+give-requires : tie.Need-give-requires
+give-requires c κs =
+    let called = c .before .before .before .before .before in
+    let h = called .before .before .before .room .ensures in
+    (left-room _ h (search needs) (called .close-on .last .1 .0) (called .close-on .kept .1 .0), closing-fits _ h (search needs) (called .close-on .ensures))
 
 same-length : tie.Need-same-length
 same-length c = search needs
@@ -31,9 +39,10 @@ same-length-2 c = search needs
 
 returns : tie.Need-returns
 returns c =
-    let called = c .before .before .before .before .before in
-    let counted = called .before .before .before .before in
-    closing-on-bytes (counted .before .before .if1 .taken) (room-alike (counted .room .ensures) _ (mid-len 0 _ _ (counted .room .ensures .within))) (called .close-on-numbers .ensures)
+    let given = c .before .before in
+    let called = given .before .before .before .before .before .before in
+    let counted = called .before .before .before in
+    closing-on-bytes _ (counted .room .ensures) (search needs) (called .close-on .ensures) (counted .before .before .if1 .taken) (called .close-on .kept .1 .0) (given .give .ensures)
 
 returns-2 : tie.Need-returns-2
 returns-2 c = on-other (c .if1 .left)
@@ -43,10 +52,11 @@ wheeling-close-spec =
     tie.close
     (tie.spec
     room-requires
-    sub-close-on-numbers
-    part-out-start
-    part-out-end
-    close-on-numbers-requires
+    array-borrow-prefix-out
+    slice-aggregate-close-on
+    close-on-requires
+    slice-aggregate-give
+    give-requires
     same-length
     same-length-2
     returns

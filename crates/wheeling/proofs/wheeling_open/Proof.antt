@@ -1,6 +1,7 @@
 -- `wheeling::wheeling_open` meets its contract: opening on the numbers that the bytes hold. Assumes nothing.
 use borrow.Author.Needs.{needs}
-use Rattle.wheeling_rules.specs.ReadingLaws.{lent-alike}
+use native.Mathlib.Omega.{arith}
+use lib.ListN.{length-take}
 use Rattle.wheeling_rules.specs.WheelingLaws.{opening-on-bytes, on-other}
 use Rattle.wheeling.proofs.wheeling_open.Statement.{statement}
 use Rattle.wheeling.proofs.wheeling_open.Tie as tie
@@ -17,23 +18,17 @@ slice-aggregate-read-input-2 c = search needs
 read-input-requires-2 : tie.Need-read-input-requires-2
 read-input-requires-2 c κs = search needs
 
-sub-opening-on : tie.Need-sub-opening-on
-sub-opening-on c = search needs
+array-share-prefix-agreed : tie.Need-array-share-prefix-agreed
+array-share-prefix-agreed c = search needs
 
-part-opening-on-start : tie.Need-part-opening-on-start
-part-opening-on-start c = search needs
+slice-aggregate-opening-on : tie.Need-slice-aggregate-opening-on
+slice-aggregate-opening-on c = simp length-take (omega (arith, c .before .before .before .before .before .read-input .ensures .within, c .before .before .before .before .before .read-input .ensures .size))
 
-part-opening-on-end : tie.Need-part-opening-on-end
-part-opening-on-end c = search needs
+array-share-prefix-pairs : tie.Need-array-share-prefix-pairs
+array-share-prefix-pairs c = search needs
 
-sub-opening-on-2 : tie.Need-sub-opening-on-2
-sub-opening-on-2 c = search needs
-
-part-opening-on-start-2 : tie.Need-part-opening-on-start-2
-part-opening-on-start-2 c = search needs
-
-part-opening-on-end-2 : tie.Need-part-opening-on-end-2
-part-opening-on-end-2 c = search needs
+slice-aggregate-opening-on-2 : tie.Need-slice-aggregate-opening-on-2
+slice-aggregate-opening-on-2 c = simp length-take (omega (arith, c .before .before .before .read-input2 .ensures .within, c .before .before .before .read-input2 .ensures .size))
 
 opening-on-requires : tie.Need-opening-on-requires
 opening-on-requires c κs = search needs
@@ -44,11 +39,10 @@ same-length c = search needs
 returns : tie.Need-returns
 returns c =
     let called = c .before .before in
-    let second = called .before .before .before .before .before .before .before in
+    let second = called .before .before .before .before .before in
     let first = second .before .before .before in
-    let here = first .before .before in
     let opened = called .opening-on .ensures in
-    opening-on-bytes _ _ _ _ _ _ _ (here .if1 .taken) (lent-alike (first .read-input .ensures)) (lent-alike (second .read-input2 .ensures)) (opened .number-is) (opened .record-is)
+    opening-on-bytes _ _ _ _ _ _ _ (first .before .before .if1 .taken) (first .read-input .ensures .alike) (second .read-input2 .ensures .alike) (opened .number-is) (opened .record-is)
 
 returns-2 : tie.Need-returns-2
 returns-2 c = on-other (c .if1 .left)
@@ -61,12 +55,10 @@ wheeling-open-spec =
     read-input-requires
     slice-aggregate-read-input-2
     read-input-requires-2
-    sub-opening-on
-    part-opening-on-start
-    part-opening-on-end
-    sub-opening-on-2
-    part-opening-on-start-2
-    part-opening-on-end-2
+    array-share-prefix-agreed
+    slice-aggregate-opening-on
+    array-share-prefix-pairs
+    slice-aggregate-opening-on-2
     opening-on-requires
     same-length
     returns

@@ -1,6 +1,7 @@
 -- `wheeling::wheeling_schedule` meets its contract: schedule on the record and the numbers that the bytes hold. Assumes nothing.
 use borrow.Author.Needs.{needs}
-use Rattle.wheeling_rules.specs.ReadingLaws.{lent-alike}
+use native.Mathlib.Omega.{arith}
+use lib.ListN.{length-take}
 use Rattle.wheeling_rules.specs.WheelingLaws.{made, schedule-on-bytes, on-other}
 use Rattle.wheeling.proofs.wheeling_schedule.Statement.{statement}
 use Rattle.wheeling.proofs.wheeling_schedule.Tie as tie
@@ -17,23 +18,17 @@ slice-aggregate-read-input-2 c = search needs
 read-input-requires-2 : tie.Need-read-input-requires-2
 read-input-requires-2 c κs = search needs
 
-sub-schedule-on : tie.Need-sub-schedule-on
-sub-schedule-on c = search needs
+array-share-prefix-kw : tie.Need-array-share-prefix-kw
+array-share-prefix-kw c = search needs
 
-part-schedule-on-start : tie.Need-part-schedule-on-start
-part-schedule-on-start c = search needs
+slice-aggregate-schedule-on : tie.Need-slice-aggregate-schedule-on
+slice-aggregate-schedule-on c = simp length-take (omega (arith, c .before .before .before .before .before .before .read-input .ensures .within, c .before .before .before .before .before .before .read-input .ensures .size))
 
-part-schedule-on-end : tie.Need-part-schedule-on-end
-part-schedule-on-end c = search needs
+array-share-prefix-ranks : tie.Need-array-share-prefix-ranks
+array-share-prefix-ranks c = search needs
 
-sub-schedule-on-2 : tie.Need-sub-schedule-on-2
-sub-schedule-on-2 c = search needs
-
-part-schedule-on-start-2 : tie.Need-part-schedule-on-start-2
-part-schedule-on-start-2 c = search needs
-
-part-schedule-on-end-2 : tie.Need-part-schedule-on-end-2
-part-schedule-on-end-2 c = search needs
+slice-aggregate-schedule-on-2 : tie.Need-slice-aggregate-schedule-on-2
+slice-aggregate-schedule-on-2 c = simp length-take (omega (arith, c .before .before .before .before .read-input2 .ensures .within, c .before .before .before .before .read-input2 .ensures .size))
 
 schedule-on-requires : tie.Need-schedule-on-requires
 schedule-on-requires c κs = search needs
@@ -44,10 +39,10 @@ same-length c = search needs
 returns : tie.Need-returns
 returns c =
     let called = c .before .before in
-    let second = called .before .before .before .before .before .before .before in
+    let second = called .before .before .before .before .before in
     let first = second .before .before .before in
     let m = made (called .schedule-on .ensures) in
-    schedule-on-bytes _ _ (first .before .before .if1 .taken) (lent-alike (first .read-input .ensures)) (lent-alike (second .read-input2 .ensures)) (m .1 .0) (m .1 .1)
+    schedule-on-bytes _ _ (first .before .before .if1 .taken) (first .read-input .ensures .alike) (second .read-input2 .ensures .alike) (m .1 .0) (m .1 .1)
 
 returns-2 : tie.Need-returns-2
 returns-2 c = on-other (c .if1 .left)
@@ -60,12 +55,10 @@ wheeling-schedule-spec =
     read-input-requires
     slice-aggregate-read-input-2
     read-input-requires-2
-    sub-schedule-on
-    part-schedule-on-start
-    part-schedule-on-end
-    sub-schedule-on-2
-    part-schedule-on-start-2
-    part-schedule-on-end-2
+    array-share-prefix-kw
+    slice-aggregate-schedule-on
+    array-share-prefix-ranks
+    slice-aggregate-schedule-on-2
     schedule-on-requires
     same-length
     returns
