@@ -77,7 +77,7 @@ fn close_lists(s: &[u8], out: &mut [u64])
     let drawing = bank::draw_all(credit.bank, n, m, &rank, &link, outstanding);
     let supplied = drawing.supplied;
     let drawn_on = drawing.bank;
-    let lapse = drawn_on.lapse(closing_totals::cycle_ends(gone, cycle));
+    let lapse = drawn_on.lapse(closing_counts::cycle_ends(gone, cycle));
     let lapsed = lapse.lapsed;
     let after = lapse.bank;
     let balance = after.balance;

@@ -32,7 +32,8 @@ use Rattle.closing_rules.specs.Closing.{charge, drawn, supplied, goneAfter, lap
 use Rattle.closing_rules.specs.ClosingOutput.{closing-length, drawn-at, charge-at, lapsed-at, bank-at, supplied-at}
 use Rattle.closing_steps.specs.Beyond.{bank-beyond, pending-beyond, charge-beyond, given-beyond, lapsed-beyond, bank-after-beyond, open-beyond, taken-beyond, supplied-beyond}
 use Rattle.closing_steps.specs.RoomLaws.{closing-output-moderate}
-use Rattle.closing_totals.specs.Totals.{countsAfter, totalsRaised, stocksReplaced, ClosingLists, Listed}
+use Rattle.closing_counts.specs.Counts.{countsAfter}
+use Rattle.closing_totals.specs.Totals.{totalsRaised, stocksReplaced, ClosingLists, Listed}
 
 -- the first seven numbers, with other months gone and no block in the month
 counted : (xs : List ℕ) (gone : ℕ) → length xs ≡ 7 →

@@ -1,10 +1,7 @@
-// A closing's totals and its place in the cycle: the record after it is made where it stands in the bytes, from the closing's lists.
+// A closing's totals: the record after it is made where it stands in the bytes, from the closing's lists.
 // Called by this repository's crates only: what a function requires, its callers meet.
 ghost use mathlib.Core.Path.{_≡_};
-ghost use Prim.Native.Nat.{_+_, _≤_};
-ghost use lib.Dec.{eqb};
-ghost use lib.ListN.{length, getD};
-ghost use Rattle.lists.specs.Choice.{if_then_else_};
+ghost use lib.ListN.{length};
 ghost use Rattle.arrays.specs.Bounds.{mostFigure};
 ghost use Rattle.codec.specs.Bytes.{encode, decode};
 ghost use Rattle.record.specs.Stored.{stored};
@@ -12,34 +9,7 @@ ghost use Rattle.record.specs.Words.{words};
 ghost use Rattle.layout_rules.specs.OnBytes.{bookIn};
 ghost use Rattle.raising.specs.Raise.{Raisable};
 ghost use Rattle.closing_rules.specs.Closing.{afterClosing};
-ghost use Rattle.closing_totals.specs.Totals.{countsAfter, totalsRaised, stocksReplaced, ClosingLists, Listed};
-
-// Whether the month that closes is the last of its cycle.
-pub fn cycle_ends(gone: u64, cycle: u64) -> bool
-    requires { ⌜ gone ≤ 12 ⌝ }
-    ensures { λ r. ⌜ r ≡ eqb (gone + 1) cycle ⌝ }
-{
-    gone + 1 == cycle
-}
-
-// Months gone after the closing; a new cycle starts at 0.
-fn months_gone(gone: u64, cycle: u64) -> u64
-    requires { ⌜ gone ≤ 12 ⌝ }
-    ensures { λ r. ⌜ r ≡ (if eqb (gone + 1) cycle then 0 else gone + 1) ⌝ }
-{
-    if cycle_ends(gone, cycle) { 0 } else { gone + 1 }
-}
-
-// The next month, which has no block yet.
-fn start_month(s: &mut [u8])
-    requires { ⌜ (length (now s) ≡ 5752) × (getD (decode 8 719 (now s)) 4 0 ≤ 12) ⌝ }
-    ensures { λ _. ⌜ decode 8 719 (now (s .exit)) ≡ countsAfter (decode 8 719 (now (s .entry))) ⌝ }
-{
-    let before = in_place::number_at(s, layout_rules::GONE);
-    let gone = months_gone(before, in_place::number_at(s, layout_rules::CYCLE));
-    in_place::put_at(s, layout_rules::GONE, gone);
-    in_place::put_at(s, layout_rules::MONTH, 0);
-}
+ghost use Rattle.closing_totals.specs.Totals.{totalsRaised, stocksReplaced, ClosingLists, Listed};
 
 fn raise_totals(s: &mut [u8], out: &[u64], n: usize, m: usize)
     requires { ⌜ Raisable 583 136 mostFigure (now s) × ClosingLists n m (now out) ⌝ }
@@ -71,7 +41,7 @@ pub fn enter(s: &mut [u8], out: &[u64])
 {
     let n = in_place::number_at(s, layout_rules::GENERATOR_COUNT) as usize;
     let m = in_place::number_at(s, layout_rules::CONSUMER_COUNT) as usize;
-    start_month(s);
+    closing_counts::start_month(s);
     raise_totals(s, out, n, m);
     replace_stocks(s, out, n, m);
 }

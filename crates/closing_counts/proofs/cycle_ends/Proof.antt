@@ -1,8 +1,8 @@
--- `closing_totals::cycle_ends` meets its contract: it is the test of step 4.
+-- `closing_counts::cycle_ends` meets its contract: it is the test of step 4.
 use mathlib.Core.Path.{refl}
 use borrow.Author.Needs.{needs}
-use Rattle.closing_totals.proofs.cycle_ends.Statement.{statement}
-use Rattle.closing_totals.proofs.cycle_ends.Tie as tie
+use Rattle.closing_counts.proofs.cycle_ends.Statement.{statement}
+use Rattle.closing_counts.proofs.cycle_ends.Tie as tie
 
 add-result : tie.Need-add-result
 add-result c = search needs
