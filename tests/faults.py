@@ -138,11 +138,11 @@ FAULTS = {
         ("record/src/lib.rt", "MOST_UNIT_BLOCKS: u64 = 10_000_000",
          "MOST_UNIT_BLOCKS: u64 = 9_999_999"),
     "sound: totals by age one low":
-        ("sound_items/src/lib.rt",
+        ("sound_totals/src/lib.rt",
          "energy::MOST_READING * blocks;\n        let split = capped(x.unaccounted)",
          "199_999_999 * blocks;\n        let split = capped(x.unaccounted)"),
     "sound: totals by age one high":
-        ("sound_items/src/lib.rt",
+        ("sound_totals/src/lib.rt",
          "energy::MOST_READING * blocks;\n        let split = capped(x.unaccounted)",
          "energy::MOST_READING * blocks + 1;\n        let split = capped(x.unaccounted)"),
     "sound: kW on an unlinked pair allowed":
@@ -150,7 +150,7 @@ FAULTS = {
     "sound: rank 256 allowed":
         ("record/src/lib.rt", "MOST_RANK: u64 = 255", "MOST_RANK: u64 = 256"),
     "sound: supplied counted for open":
-        ("sound_items/src/lib.rt", "+ capped(x.outstanding)", "+ capped(x.supplied)"),
+        ("sound_totals/src/lib.rt", "+ capped(x.outstanding)", "+ capped(x.supplied)"),
     "sound: totals beyond G allowed":
         ("soundness/src/lib.rt", "generator_sound(blocks, g < n, generator_terms(s, g))",
          "generator_sound(blocks, g < 8, generator_terms(s, g))"),

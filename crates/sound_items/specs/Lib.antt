@@ -1,3 +1,1 @@
-pub mod Capped
-pub mod CappedLaws
 pub mod SoundTests

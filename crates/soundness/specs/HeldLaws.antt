@@ -11,7 +11,7 @@ use Rattle.lists.specs.Sums.{sum-none, sum-zero}
 use Rattle.lists.specs.Pairs.{cell}
 use Rattle.lists.specs.Tests.{and-left, and-right, all, all-at, all-same}
 use Rattle.codec.specs.Bytes.{decode}
-use Rattle.sound_items.specs.Capped.{RowTotal}
+use Rattle.sound_totals.specs.Capped.{RowTotal}
 use Rattle.record.specs.Sound.{limit, agreedSound, pairSound, sound}
 use Rattle.sound_items.specs.SoundTests.{countsTest, counts-fit, agreedTest, agreed-here, pairRead, pairTest, generatorRead, generatorTest, consumerRead, consumerTest, sound-by-parts, unsound-counts}
 use Rattle.record.specs.Stored.{figures}

@@ -12,7 +12,7 @@ ghost use Rattle.codec.specs.Bytes.{decode};
 ghost use Rattle.record.specs.Words.{recordOf};
 ghost use Rattle.record.specs.Stored.{figures};
 ghost use Rattle.record.specs.Sound.{limit, sound};
-ghost use Rattle.sound_items.specs.Capped.{RowTotal};
+ghost use Rattle.sound_totals.specs.Capped.{RowTotal};
 ghost use Rattle.sound_items.specs.SoundTests.{agreedTest, pairTest, generatorRead, generatorTest, consumerRead, consumerTest};
 ghost use Rattle.layout_rules.specs.OnBytes.{recordIn};
 ghost use Rattle.soundness.specs.Held.{pairHeld};
@@ -29,7 +29,7 @@ fn row_total(s: &[u8], g: usize, n: usize) -> u64
     let mut c: usize = 0;
     while c < n {
         total = total
-            + sound_items::capped(in_place::number_at(s, layout_rules::KW + (g * 16 + c)));
+            + sound_totals::capped(in_place::number_at(s, layout_rules::KW + (g * 16 + c)));
         c += 1;
     }
     total
@@ -158,7 +158,7 @@ fn generators_sound(s: &[u8], n: usize, blocks: u64) -> bool
     let mut ok = true;
     let mut g: usize = 0;
     while g < 8 {
-        ok = ok & sound_items::generator_sound(blocks, g < n, generator_terms(s, g));
+        ok = ok & sound_totals::generator_sound(blocks, g < n, generator_terms(s, g));
         g += 1;
     }
     ok
@@ -186,7 +186,7 @@ fn consumers_sound(s: &[u8], m: usize, blocks: u64) -> bool
     let mut ok = true;
     let mut c: usize = 0;
     while c < 16 {
-        ok = ok & sound_items::consumer_sound(blocks, c < m, consumer_terms(s, c));
+        ok = ok & sound_totals::consumer_sound(blocks, c < m, consumer_terms(s, c));
         c += 1;
     }
     ok

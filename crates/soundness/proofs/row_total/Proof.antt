@@ -4,7 +4,7 @@ use mathlib.Core.Path.{sym, _∙_}
 use borrow.Author.Needs.{needs}
 use Rattle.lists.specs.Pairs.{cell}
 use Rattle.lists.specs.PairsLaws.{cell-in}
-use Rattle.sound_items.specs.CappedLaws.{Adding, add-start, add-step, add-done}
+use Rattle.sound_totals.specs.CappedLaws.{Adding, add-start, add-step, add-done}
 use Rattle.layout_rules.specs.OnBytes.{recordIn}
 use Rattle.soundness.specs.HeldLaws.{kw-held}
 use Rattle.soundness.proofs.row_total.Statement.{statement}

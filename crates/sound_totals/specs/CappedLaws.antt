@@ -9,7 +9,7 @@ use borrow.Author.Tests.{leb-true, leb-false, le-leb, lt-leb, eqb-true, eqb-fals
 use Rattle.lists.specs.Sums.{sum}
 use Rattle.energy.specs.Limits.{lastKind, mostCapacity, mostReading, mostUnitBlocks}
 use Rattle.record.specs.Sound.{limit, agreedSound}
-use Rattle.sound_items.specs.Capped.{cap, AsFar, Cut, Clipped}
+use Rattle.sound_totals.specs.Capped.{cap, AsFar, Cut, Clipped}
 
 pub cut-same : {s : ℕ} → Cut s s
 unfolding AsFar

@@ -1,12 +1,12 @@
--- `sound_items::generator_sound` meets its contract: no sum of nine capped terms wraps, and it compares with injected as the whole sum does.
+-- `sound_totals::generator_sound` meets its contract: no sum of nine capped terms wraps, and it compares with injected as the whole sum does.
 use mathlib.Core.Bool.{true}
 use mathlib.Core.Path.{refl}
 use borrow.Author.Needs.{needs}
 use Rattle.record.specs.Sound.{generatorSound}
-use Rattle.sound_items.specs.SoundTests.{generator-beyond}
-use Rattle.sound_items.specs.CappedLaws.{capped-equation, clip-add}
-use Rattle.sound_items.proofs.generator_sound.Statement.{statement}
-use Rattle.sound_items.proofs.generator_sound.Tie as tie
+use Rattle.sound_totals.specs.BeyondLaws.{generator-beyond}
+use Rattle.sound_totals.specs.CappedLaws.{capped-equation, clip-add}
+use Rattle.sound_totals.proofs.generator_sound.Statement.{statement}
+use Rattle.sound_totals.proofs.generator_sound.Tie as tie
 
 mul-most : tie.Need-mul-most
 mul-most c = search needs

@@ -1,12 +1,12 @@
--- `sound_items::consumer_sound` meets its contract: no sum of five capped terms wraps, and it compares with metered as the whole sum does.
+-- `sound_totals::consumer_sound` meets its contract: no sum of five capped terms wraps, and it compares with metered as the whole sum does.
 use mathlib.Core.Bool.{true}
 use mathlib.Core.Path.{refl}
 use borrow.Author.Needs.{needs}
 use Rattle.record.specs.Sound.{consumerSound}
-use Rattle.sound_items.specs.SoundTests.{consumer-beyond}
-use Rattle.sound_items.specs.CappedLaws.{capped-equation, clip-add}
-use Rattle.sound_items.proofs.consumer_sound.Statement.{statement}
-use Rattle.sound_items.proofs.consumer_sound.Tie as tie
+use Rattle.sound_totals.specs.BeyondLaws.{consumer-beyond}
+use Rattle.sound_totals.specs.CappedLaws.{capped-equation, clip-add}
+use Rattle.sound_totals.proofs.consumer_sound.Statement.{statement}
+use Rattle.sound_totals.proofs.consumer_sound.Tie as tie
 
 mul-most : tie.Need-mul-most
 mul-most c = search needs

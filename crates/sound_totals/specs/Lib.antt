@@ -1,0 +1,3 @@
+pub mod Capped
+pub mod CappedLaws
+pub mod BeyondLaws
