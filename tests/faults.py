@@ -111,11 +111,11 @@ FAULTS = {
         ("closing_totals/src/lib.rt",
          "    raising::clear_numbers(s, layout_rules::PENDING, n);\n", ""),
     "closing: lapsed and bank swapped in the output":
-        ("closing/src/lib.rt", "arrays::put8(out, second, &lapsed, n);\n"
+        ("closing_lists/src/lib.rt", "arrays::put8(out, second, &lapsed, n);\n"
          "    arrays::put8(out, third, &balance, n);",
          "arrays::put8(out, second, &balance, n);\n    arrays::put8(out, third, &lapsed, n);"),
     "closing: open listed after the drawing":
-        ("closing/src/lib.rt", "arrays::put16(out, fourth, &outstanding, m);",
+        ("closing_lists/src/lib.rt", "arrays::put16(out, fourth, &outstanding, m);",
          "arrays::put16(out, fourth, &supplied, m);"),
     "closing: longer output allowed":
         ("closing_refusal/src/lib.rt", "size == n * m + 3 * n + 2 * m",

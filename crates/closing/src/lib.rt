@@ -5,40 +5,10 @@ ghost use lib.ListN.{length};
 ghost use Rattle.codec.specs.Bytes.{decode};
 ghost use Rattle.record.specs.Called.{numberOn};
 ghost use Rattle.record.specs.Words.{recordOf};
-ghost use Rattle.layout_rules.specs.OnBytes.{CalledOn, bookIn};
-ghost use Rattle.closing_rules.specs.Closing.{closingOutput, closingRule, Closed};
-ghost use Rattle.closing_steps.specs.Output.{OutputRoom, sixLists};
-use bank::Bank;
+ghost use Rattle.layout_rules.specs.OnBytes.{CalledOn};
+ghost use Rattle.closing_rules.specs.Closing.{closingRule, Closed};
 use record::Answer;
 use record::Record;
-
-// The closing's output: each list into its own stretch of the slice.
-fn write_lists(
-    out: &mut [u64],
-    drawn: &[u64; 128],
-    charge: [u64; 8],
-    lapsed: [u64; 8],
-    balance: [u64; 8],
-    outstanding: [u64; 16],
-    supplied: [u64; 16],
-    n: usize,
-    m: usize,
-)
-    requires { ⌜ OutputRoom (now out) n m ⌝ }
-    ensures { λ r. ⌜ now (out .exit) ≡ sixLists (now (drawn .entry)) charge lapsed balance outstanding supplied n m ⌝ }
-{
-    let size = n * m;
-    let second = size + n;
-    let third = second + n;
-    let fourth = third + n;
-    let last = fourth + m;
-    arrays::put_pairs(out, 0, drawn, n, m);
-    arrays::put8(out, size, &charge, n);
-    arrays::put8(out, second, &lapsed, n);
-    arrays::put8(out, third, &balance, n);
-    arrays::put16(out, fourth, &outstanding, m);
-    arrays::put16(out, last, &supplied, m);
-}
 
 // The number of a closing on the record that the bytes hold.
 fn refusal_on(s: &[u8], size: usize) -> u32
@@ -56,44 +26,6 @@ fn refusal_on(s: &[u8], size: usize) -> u32
     }
 }
 
-// Steps 1 to 4 on what the record holds for them, and their lists into the slice.
-fn close_lists(s: &[u8], out: &mut [u64])
-    requires { ⌜ (length (now s) ≡ 5752) × (numberOn (closingRule (length (now out))) (recordOf (decode 8 719 (now s))) ≡ 0) ⌝ }
-    ensures { λ _. ⌜ now (out .exit) ≡ closingOutput (bookIn (now (s .entry))) ⌝ }
-{
-    let n = in_place::number_at(s, layout_rules::GENERATOR_COUNT) as usize;
-    let m = in_place::number_at(s, layout_rules::CONSUMER_COUNT) as usize;
-    let rate = in_place::number_at(s, layout_rules::RATE);
-    let cycle = in_place::number_at(s, layout_rules::CYCLE);
-    let gone = in_place::number_at(s, layout_rules::GONE);
-    let link = loading::load_pairs(s, layout_rules::LINK);
-    let rank = loading::load_pairs(s, layout_rules::RANK);
-    let held = loading::load8(s, layout_rules::BANK);
-    let pending = loading::load8(s, layout_rules::PENDING);
-    let outstanding = loading::load16(s, layout_rules::OUTSTANDING);
-    let before = Bank { balance: held };
-    let credit = before.credit(pending, rate);
-    let charge = credit.charge;
-    let drawing = bank::draw_all(credit.bank, n, m, &rank, &link, outstanding);
-    let supplied = drawing.supplied;
-    let drawn_on = drawing.bank;
-    let lapse = drawn_on.lapse(closing_counts::cycle_ends(gone, cycle));
-    let lapsed = lapse.lapsed;
-    let after = lapse.bank;
-    let balance = after.balance;
-    write_lists(
-        out,
-        &drawing.drawn,
-        charge,
-        lapsed,
-        balance,
-        outstanding,
-        supplied,
-        n,
-        m,
-    );
-}
-
 // Closes a month of the record that the bytes hold; called by this repository's crates only, which meet what it requires. The lists are made
 // in the slice of the output, and the totals are entered in the bytes from there.
 pub fn close_on(s: &mut [u8], out: &mut [u64]) -> u32
@@ -102,7 +34,7 @@ pub fn close_on(s: &mut [u8], out: &mut [u64]) -> u32
 {
     let number = refusal_on(s, out.len());
     if number == 0 {
-        close_lists(s, out);
+        closing_lists::make(s, out);
         closing_totals::enter(s, out);
         return 0;
     }

@@ -17,11 +17,11 @@ refusal-on-requires c κs = c .before .before .before .pre
 accepted : (c : tie.Then1) → let a = c .before .before .before .before .before .args in numberOn (closingRule (length (a .out .now))) (recordOf (decode 8 719 (a .s .now))) ≡ 0
 accepted c = sym (c .before .refusal-on .ensures) ∙ c .if1 .taken
 
-close-lists-requires : tie.Need-close-lists-requires
-close-lists-requires c κs = (c .before .before .before .before .before .before .before .pre, accepted (c .before .before))
+make-requires : tie.Need-make-requires
+make-requires c κs = (c .before .before .before .before .before .before .before .pre, accepted (c .before .before))
 
 enter-requires : tie.Need-enter-requires
-enter-requires c κs = listed _ _ (c .before .before .before .before .before .before .before .before .before .before .before .before .pre) (accepted (c .before .before .before .before .before .before .before)) (c .before .before .before .before .close-lists .ensures)
+enter-requires c κs = listed _ _ (c .before .before .before .before .before .before .before .before .before .before .before .before .pre) (accepted (c .before .before .before .before .before .before .before)) (c .before .before .before .before .make .ensures)
 
 same-length : tie.Need-same-length
 same-length c = search needs
@@ -30,7 +30,7 @@ same-length-2 : tie.Need-same-length-2
 same-length-2 c = search needs
 
 returns : tie.Need-returns
-returns c = closing-accepted _ _ (accepted (c .before .before .before .before .before .before .before .before .before .before)) (c .before .before .enter .ensures) (c .before .before .before .before .before .before .before .close-lists .ensures)
+returns c = closing-accepted _ _ (accepted (c .before .before .before .before .before .before .before .before .before .before)) (c .before .before .enter .ensures) (c .before .before .before .before .before .before .before .make .ensures)
 
 same-length-3 : tie.Need-same-length-3
 same-length-3 c = search needs
@@ -43,7 +43,7 @@ close-on-spec =
     tie.close
     (tie.spec
     refusal-on-requires
-    close-lists-requires
+    make-requires
     enter-requires
     same-length
     same-length-2

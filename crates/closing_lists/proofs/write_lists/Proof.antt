@@ -1,4 +1,4 @@
--- `closing::write_lists` meets its contract: six lists stand one after the other in the slice.
+-- `closing_lists::write_lists` meets its contract: six lists stand one after the other in the slice.
 use Prim.Native.Nat.{ℕ, _+_, _*_}
 use mathlib.Core.Path.{_≡_, refl, sym, _∙_}
 use native.Mathlib.Nat.{zero-add}
@@ -6,8 +6,8 @@ use native.Mathlib.Omega.{arith}
 use Rattle.arrays.specs.Written.{written-none, written-put, written-all}
 use Rattle.closing_steps.specs.Output.{sixLists}
 use borrow.Author.Needs.{needs}
-use Rattle.closing.proofs.write_lists.Statement.{statement}
-use Rattle.closing.proofs.write_lists.Tie as tie
+use Rattle.closing_lists.proofs.write_lists.Statement.{statement}
+use Rattle.closing_lists.proofs.write_lists.Tie as tie
 
 mul-size : tie.Need-mul-size
 mul-size c = search needs

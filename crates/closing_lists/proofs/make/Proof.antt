@@ -1,13 +1,13 @@
--- `closing::close_lists` meets its contract: the steps on what was read give the output of the rules.
+-- `closing_lists::make` meets its contract: the steps on what was read give the output of the rules.
 use mathlib.Core.Path.{refl}
 use native.Mathlib.Omega.{arith}
 use borrow.Author.Needs.{needs}
 use Rattle.codec.specs.Bytes.{decode}
 use Rattle.record.specs.Words.{recordOf}
 use Rattle.closing_steps.specs.Accepted.{StepsRead, credit-ready, draw-ready, output-room, lists-are}
-use Rattle.closing.specs.Ready.{steps-read, gone-low, ends-so}
-use Rattle.closing.proofs.close_lists.Statement.{statement}
-use Rattle.closing.proofs.close_lists.Tie as tie
+use Rattle.closing_lists.specs.Reading.{steps-read, gone-low, ends-so}
+use Rattle.closing_lists.proofs.make.Statement.{statement}
+use Rattle.closing_lists.proofs.make.Tie as tie
 
 number-at-requires : tie.Need-number-at-requires
 number-at-requires c κs = (c .before .before .pre .0, omega arith)
@@ -64,8 +64,8 @@ same-length c = search needs
 returns : tie.Need-returns
 returns c = lists-are _ _ (c .before .before .before .before .before .before .before .before .before .before .before .before .before .before .before .before .before .before .before .before .before .before .before .before .before .before .before .before .before .before .pre .1) (read (c .before .before .before .before .before .before .before .before .before .before .before .before .before .before .before .before .before .before)) (c .before .before .before .before .before .before .before .before .before .before .before .before .before .before .before .before .before .credit .ensures) (c .before .before .before .before .before .before .before .before .before .before .before .before .before .draw-all .ensures) (ends-so _ (c .before .before .before .before .before .before .before .before .before .before .before .before .before .before .before .before .before .before .before .before .before .before .before .number-at5 .ensures) (c .before .before .before .before .before .before .before .before .before .before .before .before .before .before .before .before .before .before .before .before .before .before .before .before .number-at4 .ensures) (c .before .before .before .before .before .before .before .before .before .before .cycle-ends .ensures)) (c .before .before .before .before .before .before .before .before .before .lapse .ensures) (c .before .before .write-lists .ensures)
 
-pub close-lists-spec : {M : Type 1} → statement M
-close-lists-spec =
+pub make-spec : {M : Type 1} → statement M
+make-spec =
     tie.close
     (tie.spec
     number-at-requires

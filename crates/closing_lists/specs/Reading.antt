@@ -1,0 +1,46 @@
+-- What the steps of an accepted closing read of the bytes. Assumes nothing.
+use Prim.Native.Nat.{ℕ, _+_, _≤_}
+use mathlib.Core.Path.{_≡_, sym, ap, _∙_}
+use mathlib.Core.Bool.{Bool}
+use mathlib.Core.List.{List}
+use lib.Dec.{eqb}
+use lib.ListN.{getD}
+use Rattle.codec.specs.Bytes.{decode}
+use Rattle.record.specs.Words.{recordOf}
+use Rattle.record.specs.Called.{numberOn}
+use Rattle.record.specs.declared.Terms.{Terms}
+use Rattle.record.specs.declared.Counts.{Counts}
+use Rattle.record.specs.declared.Links.{Links}
+use Rattle.record.specs.declared.Schedule.{Schedule}
+use Rattle.record.specs.declared.Generators.{Generators}
+use Rattle.record.specs.declared.Consumers.{Consumers}
+use Rattle.layout_rules.specs.Layout.{run, links-at, schedule-at, generators-at, consumers-at}
+use Rattle.layout_rules.specs.Places.{terms-places, counts-places}
+use Rattle.closing_rules.specs.Closing.{closingRule}
+use Rattle.closing_steps.specs.Accepted.{StepsRead, gone-few}
+
+module _ (s : List ℕ) where
+  abbrev ws : List ℕ
+  ws = decode 8 719 s
+
+  pub steps-read : {n m rate : ℕ} {link rank held pending outstanding : List ℕ} → n ≡ getD ws 0 0 → m ≡ getD ws 1 0 → rate ≡ getD ws 2 0 →
+      link ≡ run ws 128 31 → rank ≡ run ws 128 415 → held ≡ run ws 8 607 → pending ≡ run ws 8 615 → outstanding ≡ run ws 16 703 →
+      StepsRead (recordOf ws) n m rate link rank held pending outstanding
+  steps-read n m rate link rank held pending outstanding =
+      let terms = sym (terms-places ws) in
+      record {
+        generators = n ∙ ap (λ (t : Terms). t .generators) terms;
+        consumers = m ∙ ap (λ (t : Terms). t .consumers) terms;
+        rate-is = rate ∙ ap (λ (t : Terms). t .rate) terms;
+        link-is = link ∙ ap (λ (x : Links). x .link) (sym (links-at ws));
+        rank-is = rank ∙ ap (λ (x : Schedule). x .rank) (sym (schedule-at ws));
+        held-is = held ∙ ap (λ (x : Generators). x .bank) (sym (generators-at ws));
+        pending-is = pending ∙ ap (λ (x : Generators). x .pending) (sym (generators-at ws));
+        open-is = outstanding ∙ ap (λ (x : Consumers). x .outstanding) (sym (consumers-at ws));
+      }
+
+  pub gone-low : (size : ℕ) {gone : ℕ} → numberOn (closingRule size) (recordOf ws) ≡ 0 → gone ≡ getD ws 4 0 → gone ≤ 12
+  gone-low size z e = rw (e ∙ ap (λ (n : Counts). n .gone) (sym (counts-places ws))) (gone-few (recordOf ws) size z)
+
+  pub ends-so : {gone cycle : ℕ} {ends : Bool} → gone ≡ getD ws 4 0 → cycle ≡ getD ws 3 0 → ends ≡ eqb (gone + 1) cycle → ends ≡ eqb (recordOf ws .counts .gone + 1) (recordOf ws .terms .cycle)
+  ends-so gone cycle e = e ∙ rw (gone, cycle, terms-places ws, counts-places ws)
