@@ -178,7 +178,7 @@ FAULTS = {
         ("loading/src/lib.rt", "let installed = agreed_rows::column(rows, 1);",
          "let installed = agreed_rows::column(rows, 2);"),
     "bytes: bank loaded from pending":
-        ("closing/src/lib.rt", "loading::load8(s, layout_rules::BANK)",
+        ("closing_lists/src/lib.rt", "loading::load8(s, layout_rules::BANK)",
          "loading::load8(s, layout_rules::PENDING)"),
     "bytes: consumers stored one place early":
         ("storing/src/lib.rt", "store16(supplied, s, layout_rules::SUPPLIED);",

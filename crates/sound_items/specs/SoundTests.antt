@@ -5,10 +5,10 @@ use mathlib.Core.Bool.{Bool, true, false, _&&_, _||_}
 use mathlib.Core.List.{List, [], _∷_}
 use native.Mathlib.Nat.{add-assoc}
 use native.Mathlib.Omega.{arith}
-use lib.Bits.{bitOr, or-zero-l, or-add-and, and-le-l, and-le-r}
+use lib.Bits.{bitOr, or-zero-l, or-add-and, and-le-r}
 use lib.Dec.{eqb, leb, ltb}
 use lib.ListN.{getD}
-use borrow.Author.Tests.{leb-true, lt-ltb, le-ltb, le-leb, lt-leb, eq-eqb, ne-eqb, eqb-true}
+use borrow.Author.Tests.{leb-true, lt-ltb, le-ltb, le-leb, lt-leb, ne-eqb, eqb-true}
 use Rattle.lists.specs.Sums.{sum}
 use Rattle.lists.specs.Tests.{all, all-rows, all-same, all-plus, within, within-high, chain-at}
 use Rattle.lists.specs.Pairs.{place, cell}

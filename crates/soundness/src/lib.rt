@@ -1,4 +1,4 @@
-// The test of soundness on the record's bytes, each number read where it stands; crate record tests the single items.
+// The test of soundness on the record's bytes, each number read where it stands; crates sound_items and sound_totals test what was read.
 // Tests are joined by & and |, which do not branch.
 // Called by this repository's crates only: what a function requires, its callers meet.
 ghost use mathlib.Core.Path.{_≡_};
