@@ -1,10 +1,10 @@
--- `report::read_input` meets its contract, by the text's length and the reader's answer. Assumes nothing.
+-- `table_input::read` meets its contract, by the text's length and the reader's answer. Assumes nothing.
 use mathlib.Core.Path.{sym, _∙_}
 use native.Mathlib.Omega.{arith}
 use borrow.Author.Needs.{needs}
-use Rattle.report.specs.InputLaws.{shown-lines, shown-refused, input-short, input-long, input-names}
-use Rattle.report.proofs.read_input.Statement.{statement}
-use Rattle.report.proofs.read_input.Tie as tie
+use Rattle.table_input.specs.InputLaws.{shown-lines, shown-refused, input-short, input-long, input-names}
+use Rattle.table_input.proofs.read.Statement.{statement}
+use Rattle.table_input.proofs.read.Tie as tie
 
 read-table-requires : tie.Need-read-table-requires
 read-table-requires c κs = search needs
@@ -64,8 +64,8 @@ returns-4 c =
     (λ z. c .if2 .left (sym (shown-refused (c .before .before .read .given .1)) ∙ z))
     (c .before .before .before .before .if1 .left)
 
-pub read-input-spec : {M : Type 1} → statement M
-read-input-spec =
+pub read-spec : {M : Type 1} → statement M
+read-spec =
     tie.close
     (tie.spec
     read-table-requires

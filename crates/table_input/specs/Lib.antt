@@ -1,3 +1,2 @@
 pub mod Input
-pub mod AccountLaws
 pub mod InputLaws

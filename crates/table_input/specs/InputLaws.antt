@@ -4,7 +4,7 @@ use mathlib.Core.Path.{_≡_, refl, sym, ap, _∙_, subst}
 use mathlib.Core.Bool.{Bool, true, false, not, _&&_}
 use mathlib.Core.List.{List}
 use native.Mathlib.Omega.{arith}
-use borrow.Author.Tests.{lt-ltb, le-ltb, eq-eqb, ne-eqb}
+use borrow.Author.Tests.{lt-ltb, le-ltb}
 use lib.Dec.{ltb}
 use lib.ListN.{length, take}
 use Rattle.lists.specs.Choice.{if_then_else_}
@@ -14,10 +14,8 @@ use Rattle.table.specs.Table.{inRange, startsWithNames, laterLines, wellFormed,
 use Rattle.table.specs.ReadMeetsLaws.{lines-read, shows, refusal}
 use Rattle.table.specs.declared.Read.{Read}
 use Rattle.table.specs.declared.Read.the-variants.{Lines, Refused}
-use Rattle.report_rules.specs.Display.{mostInput, space, tableNumber, accountText, refusedText, display}
-use Rattle.report.specs.Input.{InputRead}
-use Rattle.display.specs.Printing.{Shows}
-use Rattle.display.specs.declared.Printed.{Printed}
+use Rattle.report_rules.specs.Display.{mostInput, space, tableNumber}
+use Rattle.table_input.specs.Input.{InputRead}
 
 -- ---- the names line
 
@@ -91,21 +89,6 @@ module _ {text out last : List ℕ} (size : length out ≡ space) where
       go true e = absurd (names-right text space e (sym (number-read m) ∙ n))
       go false e = number-differ text e
 
--- ---- what is printed
-
-module _ (text last : List ℕ) (r : Read) where
-  pub input-room : (k : ℕ) → r ≡ Lines k → InputRead text r last → k * 3 ≤ space
-  unfolding InputRead
-  input-room k e h = let q : InputRead text (Lines k) last = subst (λ (x : Read). InputRead text x last) e h in q .1 .0
-
-  pub shows-refused : {p : Printed} (n : ℕ) → r ≡ Refused n → InputRead text r last → Shows p (refusedText n) → Shows p (display text)
-  unfolding InputRead display
-  shows-refused {p} n e h s =
-      let q : InputRead text (Refused n) last = subst (λ (x : Read). InputRead text x last) e h in
-      rw (q .0, ne-eqb n 0 (q .1)) s
-
-  pub shows-account : {p : Printed} (k : ℕ) → r ≡ Lines k → InputRead text r last → Shows p (accountText (take (k * 3) last)) → Shows p (display text)
-  unfolding InputRead display
-  shows-account {p} k e h s =
-      let q : InputRead text (Lines k) last = subst (λ (x : Read). InputRead text x last) e h in
-      rw (eq-eqb (tableNumber text) 0 (q .0), ← q .1 .1) s
+pub input-room : (text last : List ℕ) (r : Read) (k : ℕ) → r ≡ Lines k → InputRead text r last → k * 3 ≤ space
+unfolding InputRead
+input-room text last r k e h = let q : InputRead text (Lines k) last = subst (λ (x : Read). InputRead text x last) e h in q .1 .0

@@ -1,8 +1,8 @@
--- `report::account` meets its contract, by the number of the month's calls. Assumes nothing.
+-- `wheel::account` meets its contract, by the number of the month's calls. Assumes nothing.
 use borrow.Author.Needs.{needs}
-use Rattle.report.specs.AccountLaws.{shows-refusal, shows-equation}
-use Rattle.report.proofs.account.Statement.{statement}
-use Rattle.report.proofs.account.Tie as tie
+use Rattle.wheel.specs.AccountLaws.{shows-refusal, shows-equation}
+use Rattle.wheel.proofs.account.Statement.{statement}
+use Rattle.wheel.proofs.account.Tie as tie
 
 month-requires : tie.Need-month-requires
 month-requires c κs = search needs
