@@ -6,8 +6,7 @@ ghost use lib.Dec.{eqb};
 ghost use Rattle.lists.specs.Pairs.{cell};
 ghost use Rattle.energy.specs.Limits.{mostRank};
 ghost use Rattle.order_rules.specs.Order.{inOrder, only};
-ghost use Rattle.bank.specs.Arrays.{Creditable, creditOf, drawOf, drawingOf, lapseOf, linkPlan};
-ghost use Rattle.bank.specs.DrawingLaws.{Drawable};
+ghost use Rattle.bank.specs.Arrays.{Creditable, creditOf, drawOf, lapseOf};
 use energy::Wh;
 
 pub struct Bank {
@@ -101,37 +100,5 @@ impl Bank {
             bank: self,
             lapsed: none,
         }
-    }
-}
-
-// Steps 2 and 3: consumers 1 to m draw one after the other. The columns and places from m on stay the zeros that they are made with.
-pub fn draw_all<'a>(
-    bank: Bank,
-    n: usize,
-    m: usize,
-    rank: &'a [u64; 128],
-    link: &'a [u64; 128],
-    outstanding: [u64; 16],
-) -> Drawing
-    requires { ⌜ Drawable n m (now rank) outstanding ⌝ }
-    ensures { λ r. ⌜ r ≡ drawingOf (linkPlan n m (now (rank .entry)) (now (link .entry))) bank outstanding ⌝ }
-{
-    let mut drawn = [0u64; 128];
-    let mut supplied = [0u64; 16];
-    let mut left = bank;
-    let mut c: usize = 0;
-    while c < m {
-        let turn = left.draw(n, rank, link, c, outstanding[c]);
-        let column = turn.drawn;
-        let next = turn.bank;
-        columns::put_column(&mut drawn, 8, 16, c, &column);
-        supplied[c] = turn.left;
-        left = next;
-        c += 1;
-    }
-    Drawing {
-        bank: left,
-        drawn,
-        supplied,
     }
 }

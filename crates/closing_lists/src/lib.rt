@@ -6,9 +6,44 @@ ghost use Rattle.codec.specs.Bytes.{decode};
 ghost use Rattle.record.specs.Called.{numberOn};
 ghost use Rattle.record.specs.Words.{recordOf};
 ghost use Rattle.layout_rules.specs.OnBytes.{bookIn};
+ghost use Rattle.bank.specs.Arrays.{drawingOf, linkPlan};
+ghost use Rattle.bank.specs.DrawingLaws.{Drawable};
 ghost use Rattle.closing_rules.specs.Closing.{closingOutput, closingRule};
 ghost use Rattle.closing_steps.specs.Output.{OutputRoom, sixLists};
 use bank::Bank;
+use bank::Drawing;
+
+// Steps 2 and 3: consumers 1 to m draw one after the other. The columns and places from m on stay the zeros that they are made with.
+fn draw_all<'a>(
+    bank: Bank,
+    n: usize,
+    m: usize,
+    rank: &'a [u64; 128],
+    link: &'a [u64; 128],
+    outstanding: [u64; 16],
+) -> Drawing
+    requires { ⌜ Drawable n m (now rank) outstanding ⌝ }
+    ensures { λ r. ⌜ r ≡ drawingOf (linkPlan n m (now (rank .entry)) (now (link .entry))) bank outstanding ⌝ }
+{
+    let mut drawn = [0u64; 128];
+    let mut supplied = [0u64; 16];
+    let mut left = bank;
+    let mut c: usize = 0;
+    while c < m {
+        let turn = left.draw(n, rank, link, c, outstanding[c]);
+        let column = turn.drawn;
+        let next = turn.bank;
+        columns::put_column(&mut drawn, 8, 16, c, &column);
+        supplied[c] = turn.left;
+        left = next;
+        c += 1;
+    }
+    Drawing {
+        bank: left,
+        drawn,
+        supplied,
+    }
+}
 
 // The closing's output: each list into its own stretch of the slice.
 fn write_lists(
@@ -56,7 +91,7 @@ pub fn make(s: &[u8], out: &mut [u64])
     let before = Bank { balance: held };
     let credit = before.credit(pending, rate);
     let charge = credit.charge;
-    let drawing = bank::draw_all(credit.bank, n, m, &rank, &link, outstanding);
+    let drawing = draw_all(credit.bank, n, m, &rank, &link, outstanding);
     let supplied = drawing.supplied;
     let drawn_on = drawing.bank;
     let lapse = drawn_on.lapse(closing_counts::cycle_ends(gone, cycle));

@@ -1,4 +1,4 @@
--- `bank::draw_all` is steps 2 and 3: c consumers have drawn, and from m on nobody wants anything. Assumes nothing.
+-- `closing_lists::draw_all` is steps 2 and 3: c consumers have drawn, and from m on nobody wants anything. Assumes nothing.
 use Prim.Native.Nat.{_-_, _≤_, _<_}
 use mathlib.Core.Path.{_≡_, sym}
 use native.Mathlib.Omega.{arith}
@@ -6,10 +6,10 @@ use borrow.Author.Needs.{needs}
 use Rattle.lists.specs.PairsLaws.{place-in}
 use Rattle.lists.specs.Pairs.{place}
 use Rattle.delivery_rules.specs.Plan.{order, suppliers}
 use Rattle.bank.specs.Arrays.{linkPlan}
 use Rattle.bank.specs.DrawingLaws.{Drawn, drawing-start, drawing-step, drawing-done}
-use Rattle.bank.proofs.draw_all.Statement.{statement}
-use Rattle.bank.proofs.draw_all.Tie as tie
+use Rattle.closing_lists.proofs.draw_all.Statement.{statement}
+use Rattle.closing_lists.proofs.draw_all.Tie as tie
 
 abbrev Inv-loop : tie.InvT-loop
 Inv-loop n m rank link outstanding drawn₀ supplied₀ left₀ c₀ drawn supplied left c =
