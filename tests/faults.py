@@ -88,7 +88,7 @@ FAULTS = {
         ("block_totals/src/lib.rt", "raise_readings(s, layout_rules::METERED, exit);",
          "raise_numbers(s, layout_rules::METERED, out, 4 * size + n, m);"),
     "block: shortfall listed as underdrawn":
-        ("block_settlement/src/lib.rt", "put_column_at(out, 3 * size, n, m, c, shortfall);",
+        ("block_columns/src/lib.rt", "put_column_at(out, 3 * size, n, m, c, shortfall);",
          "put_column_at(out, 3 * size, n, m, c, underdrawn);"),
     "block: all counted where nothing is scheduled":
         ("block_counting/src/lib.rt", "    if scheduled.0 == 0 {\n        return 0;",

@@ -17,14 +17,6 @@ use Rattle.layout_rules.specs.Places.{rank-place}
 use Rattle.layout_rules.specs.OnBytes.{planIn}
 use Rattle.block_settlement.specs.Bytes.{Ranked}
 
-pub rank-at : (s : List ℕ) (g c : ℕ) → g < 8 → c < 16 → getD (decode 8 719 s) (415 + c + g * 16) 0 ≡ planIn s .rank g c
-unfolding planOf
-rank-at s g c h k =
-    let e : 415 + (g * 16 + c) ≡ 415 + c + g * 16 = omega arith in
-    sym
-    (cell-in 8 16 (recordOf (decode 8 719 s) .schedule .rank) g c h k ∙ rank-place (decode 8 719 s) (g * 16 + c) (omega arith) ∙
-    ap (λ (i : ℕ). getD (decode 8 719 s) i 0) e)
-
 module _ {s : List ℕ} {n m : ℕ} (h : Ranked s n m) (c : ℕ) {ranks : List ℕ} (e : ranks ≡ table 8 (λ g. planIn s .rank g c)) where
   ranks-are : place 8 ranks ≡ (λ g. planIn s .rank g c)
   unfolding planOf

@@ -2,11 +2,10 @@
 use Prim.Native.Nat.{ℕ, _+_, _-_, _*_, _≤_, _<_}
 use mathlib.Core.Path.{_≡_}
 use mathlib.Core.List.{List}
-use lib.ListN.{length, getD, set}
+use lib.ListN.{length, getD}
 use Rattle.delivery_rules.specs.Plan.{Plan}
 use Rattle.delivery_rules.specs.Delivery.{unaccounted, lossOf, delivered, atExit}
 use Rattle.settlement_rules.specs.Settlement.{setOff, underdrawn, shortfall, remainder}
-use Rattle.columns.specs.Columns.{ColumnAt}
 
 -- The first i consumers are settled; the others are as rules 1 to 4 leave them.
 pub record SettledTo (p : Plan) (E R : ℕ → ℕ) (i : ℕ) (out : List ℕ) : Type 0 where
@@ -19,13 +18,3 @@ pub record SettledTo (p : Plan) (E R : ℕ → ℕ) (i : ℕ) (out : List ℕ) :
   pub gap-is : (g c : ℕ) → g < p .G → c < p .C → i ≤ c → getD out (3 * (p .G * p .C) + (g * p .C + c)) 0 ≡ atExit p g (E g) c - delivered p g (E g) c
   pub unaccounted-is : (g : ℕ) → g < p .G → getD out (4 * (p .G * p .C) + g) 0 ≡ unaccounted p g (E g)
   pub remainder-is : (c : ℕ) → c < p .C → c < i → getD out (4 * (p .G * p .C) + p .G + c) 0 ≡ remainder p E c (R c)
-
--- The figures of consumer c are put where the lists of n generators and m consumers have them, one list after the other.
-pub record ConsumerPut (n m c : ℕ) (setoff underdrawn shortfall : List ℕ) (remainder : ℕ) (out out′ : List ℕ) : Type 0 where
-  pub one : List ℕ
-  pub two : List ℕ
-  pub three : List ℕ
-  pub setoff-put : ColumnAt n m (n * m) c setoff out one
-  pub underdrawn-put : ColumnAt n m (2 * (n * m)) c underdrawn one two
-  pub shortfall-put : ColumnAt n m (3 * (n * m)) c shortfall two three
-  pub remainder-put : out′ ≡ set three (4 * (n * m) + n + c) remainder

@@ -1,57 +1,20 @@
 // Rules 5 to 7 of a block, consumer by consumer, in the slice of its output. Called by this repository's crates only: what a
 // function requires, its callers meet.
 ghost use mathlib.Core.Path.{_≡_};
-ghost use Prim.Native.Nat.{ℕ, _+_, _*_, _<_, _≤_};
+ghost use Prim.Native.Nat.{ℕ, _+_, _*_, _<_};
 ghost use lib.ListN.{length};
-ghost use Rattle.lists.specs.Tables.{table};
 ghost use Rattle.delivery_rules.specs.DeliveredIn.{DeliveredIn};
 ghost use Rattle.settlement_rules.specs.Settlement.{blockOutput};
 ghost use Rattle.layout_rules.specs.OnBytes.{planIn};
 ghost use Rattle.block_settlement.specs.Bytes.{exitsIn, Ranked};
-ghost use Rattle.block_settlement.specs.SettledTo.{SettledTo, ConsumerPut};
-
-// The ranks of the generators for consumer c, read where they stand.
-fn ranks_of(s: &[u8], c: usize) -> [u64; 8]
-    requires { ⌜ (length (now s) ≡ 5752) × (c < 16) ⌝ }
-    ensures { λ r. ⌜ r ≡ table 8 (λ g. planIn (now (s .entry)) .rank g c) ⌝ }
-{
-    let from = layout_rules::RANK + c;
-    let mut ranks = [0u64; 8];
-    let mut g: usize = 0;
-    while g < 8 {
-        ranks[g] = in_place::number_at(s, from + g * 16);
-        g += 1;
-    }
-    ranks
-}
-
-// Puts the figures of consumer c where the output has them: a column of each of three lists, and a place.
-fn put_settled(
-    out: &mut [u64],
-    n: usize,
-    m: usize,
-    c: usize,
-    setoff: &[u64; 8],
-    underdrawn: &[u64; 8],
-    shortfall: &[u64; 8],
-    remainder: u64,
-)
-    requires { ⌜ (length (now out) ≡ 4 * (n * m) + n + m) × ((n ≤ 8) × ((m ≤ 16) × (c < m))) ⌝ }
-    ensures { λ _. ⌜ ConsumerPut n m c (now (setoff .entry)) (now (underdrawn .entry)) (now (shortfall .entry)) remainder (now (out .entry)) (now (out .exit)) ⌝ }
-{
-    let size = n * m;
-    columns::put_column_at(out, size, n, m, c, setoff);
-    columns::put_column_at(out, 2 * size, n, m, c, underdrawn);
-    columns::put_column_at(out, 3 * size, n, m, c, shortfall);
-    out[4 * size + n + c] = remainder;
-}
+ghost use Rattle.block_settlement.specs.SettledTo.{SettledTo};
 
 // Rules 5 to 7 for consumer c, whose exit reading is `read`.
 fn settle_one(s: &[u8], n: usize, m: usize, c: usize, read: u64, out: &mut [u64])
     requires { ⌜ Ranked (now s) n m × ((c < m) × (length (now out) ≡ 4 * (n * m) + n + m)) ⌝ }
     ensures { λ _. ⌜ ((E R : ℕ → ℕ) → read ≡ R c → SettledTo (planIn (now (s .entry))) E R c (now (out .entry)) → SettledTo (planIn (now (s .entry))) E R (c + 1) (now (out .exit))) ⌝ }
 {
-    let ranks = ranks_of(s, c);
+    let ranks = block_columns::ranks_of(s, c);
     let turns = order::in_order(ranks, n);
     let size = n * m;
     let mut has = [0u64; 8];
@@ -62,7 +25,7 @@ fn settle_one(s: &[u8], n: usize, m: usize, c: usize, read: u64, out: &mut [u64]
     columns::get_column_at(out, 3 * size, n, m, c, &mut gap);
     let mut short = [0u64; 8];
     let rest = settling::settle(&turns, n, &mut gap, &mut short, left);
-    put_settled(out, n, m, c, &taken, &has, &short, rest);
+    block_columns::put_settled(out, n, m, c, &taken, &has, &short, rest);
 }
 
 // Rules 5 to 7 of a block, in the slice in which rules 1 to 4, for whatever entry readings E, have left their figures.

@@ -1,9 +1,9 @@
--- `block_settlement::put_settled` meets its contract: the lists are put one after the other, and the remainder last. Assumes nothing.
+-- `block_columns::put_settled` meets its contract: the lists are put one after the other, and the remainder last. Assumes nothing.
 use mathlib.Core.Path.{refl}
 use borrow.Author.Needs.{needs}
-use Rattle.block_settlement.specs.SettledLaws.{put-length}
-use Rattle.block_settlement.proofs.put_settled.Statement.{statement}
-use Rattle.block_settlement.proofs.put_settled.Tie as tie
+use Rattle.block_columns.specs.PutLaws.{put-length}
+use Rattle.block_columns.proofs.put_settled.Statement.{statement}
+use Rattle.block_columns.proofs.put_settled.Tie as tie
 
 mul-size : tie.Need-mul-size
 mul-size c = search needs

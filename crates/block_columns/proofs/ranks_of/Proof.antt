@@ -1,12 +1,12 @@
--- `block_settlement::ranks_of` meets its contract: g ranks are read. Assumes nothing.
+-- `block_columns::ranks_of` meets its contract: g ranks are read. Assumes nothing.
 use Prim.Native.Nat.{_-_}
 use mathlib.Core.Path.{_∙_}
 use borrow.Author.Needs.{needs}
 use Rattle.lists.specs.Tables.{Filling, fill-start, fill-step, fill-done}
 use Rattle.layout_rules.specs.OnBytes.{planIn}
-use Rattle.block_settlement.specs.BytesLaws.{rank-at}
-use Rattle.block_settlement.proofs.ranks_of.Statement.{statement}
-use Rattle.block_settlement.proofs.ranks_of.Tie as tie
+use Rattle.block_columns.specs.RankLaws.{rank-at}
+use Rattle.block_columns.proofs.ranks_of.Statement.{statement}
+use Rattle.block_columns.proofs.ranks_of.Tie as tie
 
 abbrev Inv-loop : tie.InvT-loop
 Inv-loop s c from ranks₀ g₀ ranks g = Filling 8 (λ h. planIn s .rank h c) ranks₀ g ranks
