@@ -77,7 +77,7 @@ impl Bank {
         let mut links = [0u64; 8];
         columns::get_column(link, 8, 16, c, &mut links);
         let turns = order::in_order(ranks, n);
-        let linked = order::keep(turns, n, links);
+        let linked = linked::keep(turns, n, links);
         let at = linked.at;
         let mut stock = self.balance;
         let mut drawn = [0u64; 8];

@@ -4,7 +4,8 @@ use lib.ListN.{length}
 use native.Mathlib.Omega.{arith}
 use borrow.Author.Needs.{needs}
 use Rattle.energy.specs.Limits.{mostRank}
-use Rattle.order.specs.Arrays.{column-ranks, order-held, kept-held}
+use Rattle.order.specs.Arrays.{column-ranks, order-held}
+use Rattle.linked.specs.Keeping.{kept-held}
 use Rattle.columns.specs.ColumnsLaws.{column-of-pairs}
 use Rattle.bank.specs.BankLaws.{draw-is}
 use Rattle.bank.proofs.Bank.draw.Statement.{statement}
