@@ -123,7 +123,7 @@ FAULTS = {
     "closing: charge not taken from the bank":
         ("bank/src/lib.rt", "balance[g] += pending[g] - due.0;", "balance[g] += pending[g];"),
     "closing: all consumers draw what the first lacks":
-        ("closing_lists/src/lib.rt", "link, c, outstanding[c])", "link, c, outstanding[0])"),
+        ("closing_lists/src/lib.rt", "links, outstanding[c])", "links, outstanding[0])"),
     "closing: months gone not reset":
         ("closing_counts/src/lib.rt", "{ 0 } else { gone + 1 }", "{ gone } else { gone + 1 }"),
     # soundness

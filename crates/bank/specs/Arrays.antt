@@ -4,7 +4,7 @@ use mathlib.Core.Bool.{Bool}
 use mathlib.Core.List.{List}
 use Rattle.lists.specs.Choice.{if_then_else_}
 use Rattle.lists.specs.Tables.{table}
-use Rattle.lists.specs.Pairs.{place, cell, pairs}
+use Rattle.lists.specs.Pairs.{place, pairs}
 use Rattle.energy.specs.Energy.{portionUp}
 use Rattle.energy.specs.Limits.{mostRate}
 use Rattle.order_rules.specs.Settle.{given, kept, unmet}
@@ -28,21 +28,6 @@ creditOf x pending rate =
 pub record Creditable (x : Bank) (pending : List ℕ) (rate : ℕ) : Type 0 where
   pub moderate : (g : ℕ) → g < 8 → place 8 (x .balance) g + place 8 pending g ≤ 2_000_000_000_000_000
   pub rate-high : rate ≤ mostRate
-
--- the figures that drawing looks at: n generators, m consumers, ranks and links
-unfoldable pub linkPlan : ℕ → ℕ → List ℕ → List ℕ → Plan
-linkPlan n m rank link =
-    record {
-      G = n;
-      C = m;
-      kind = λ g. 0;
-      installed = λ g. 0;
-      contracted = λ g. 0;
-      link = cell 8 16 link;
-      loss = λ g c. 0;
-      kw = λ g c. 0;
-      rank = cell 8 16 rank;
-    }
 
 -- Step 2 for one consumer, by its suppliers in their order
 unfoldable pub drawOf : Bank → List ℕ → ℕ → Draw

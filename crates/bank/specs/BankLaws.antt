@@ -4,18 +4,18 @@ use mathlib.Core.Path.{_≡_, refl, sym, ap, _∙_}
 use mathlib.Core.Bool.{Bool, true, false}
 use mathlib.Core.List.{List}
 use native.Mathlib.Omega.{arith}
-use lib.Dec.{eqb}
 use lib.ListN.{length, getD, set, replicate}
-use Rattle.lists.specs.Tables.{table, is-table, Filling, fill-start, fill-step, fill-here, fill-done}
-use Rattle.lists.specs.Pairs.{place, cell}
+use Rattle.lists.specs.Tables.{table, getD-table, is-table, table-same, Filling, fill-start, fill-step, fill-here, fill-done}
+use Rattle.lists.specs.Pairs.{place}
 use Rattle.lists.specs.PairsLaws.{place-in}
 use Rattle.energy.specs.Energy.{portionUp}
 use Rattle.energy.specs.EnergyLaws.{portion-le}
 use Rattle.order_rules.specs.Order.{only, inOrder}
-use Rattle.order_rules.specs.Members.{Below}
+use Rattle.order_rules.specs.Members.{Below, below-more, order-below}
 use Rattle.order_rules.specs.Settle.{given, kept, unmet}
-use Rattle.order.specs.Arrays.{column-read}
-use Rattle.settling.specs.Settling.{Settled, settled, settledBy, settled-table}
+use Rattle.order_rules.specs.SettleLaws.{given-le, kept-is}
+use Rattle.order_rules.specs.Among.{among, given-among, unmet-among}
+use Rattle.settling.specs.Settling.{Settled, settledIn, settled, settledBy, settled-table}
 use Rattle.bank.specs.declared.Bank.{Bank}
 use Rattle.bank.specs.declared.Credit.{Credit}
 use Rattle.bank.specs.declared.Draw.{Draw}
@@ -72,15 +72,37 @@ module _ (old pending : List ℕ) (rate : ℕ) where
 
 -- ---- step 2, for one consumer
 
-pub draw-is : (x : Bank) (n c want : ℕ) (rank link : List ℕ) {ranks links all some : List ℕ} {s : Settled} →
-    ranks ≡ table 8 (λ g. cell 8 16 rank g c) → links ≡ table 8 (λ g. cell 8 16 link g c) →
-    all ≡ inOrder (place 8 ranks) n → some ≡ only (λ g. eqb (place 8 links g) 1) all → s ≡ settled some (x .balance) want →
-    _≡_ {A = Draw} (record { bank = record { balance = s .rest }; drawn = s .taken; left = s .left })
-    (drawOf x (only (λ g. eqb (cell 8 16 link g c) 1) (inOrder (λ g. cell 8 16 rank g c) n)) want)
-unfolding drawOf settled settledBy
-draw-is x n c want rank link er el e f q =
-    let r = rw (f, e, column-read rank c er, column-read link c el) at q in
-    λ i. record { bank = record { balance = r i .rest }; drawn = r i .taken; left = r i .left }
+-- In the order of n generators those who pass p are linked; the code settles by all of them, of whom the others have nothing for this consumer.
+module _ (x : Bank) (p : ℕ → Bool) (rank : ℕ → ℕ) (n want : ℕ) {all stock taken rest : List ℕ} {left : ℕ} (few : n ≤ 8)
+    (all-is : all ≡ inOrder rank n) (stock-is : stock ≡ table 8 (among p (place 8 (x .balance)))) (s : settledIn taken rest left ≡ settled all stock want) where
+  abbrev has : ℕ → ℕ
+  has = place 8 (x .balance)
+
+  abbrev gs : List ℕ
+  gs = inOrder rank n
+
+  settled-so : settledIn taken rest left ≡ settledBy gs (among p has) want
+  settled-so = s ∙ (λ i. settled (all-is i) (stock-is i) want) ∙ settled-table gs (among p has) want (below-more n 8 gs few (order-below rank n))
+
+  taken-is : taken ≡ table 8 (given (only p gs) has want)
+  unfolding settledBy
+  taken-is = ap (λ (v : Settled). v .taken) settled-so ∙ table-same 8 _ _ (λ g l. sym (given-among p gs has want g))
+
+  taken-at : (g : ℕ) → g < 8 → place 8 taken g ≡ given (only p gs) has want g
+  taken-at g l = place-in 8 taken g l ∙ ap (λ (t : List ℕ). getD t g 0) taken-is ∙ getD-table 8 _ g 0 l
+
+  left-is : left ≡ unmet (only p gs) has want
+  unfolding settledBy
+  left-is = ap (λ (v : Settled). v .left) settled-so ∙ sym (unmet-among p gs has want)
+
+  pub taken-few : (g : ℕ) → g < 8 → place 8 taken g ≤ has g
+  taken-few g l = omega (arith, taken-at g l, given-le (only p gs) has want g)
+
+  pub draw-is : {b : Bank} → b .balance ≡ table 8 (λ g. has g - place 8 taken g) → _≡_ {A = Draw} (record { bank = b; drawn = taken; left = left }) (drawOf x (only p gs) want)
+  unfolding drawOf
+  draw-is e =
+      let balance = e ∙ table-same 8 (λ g. has g - place 8 taken g) (kept (only p gs) has want) (λ g l. omega (arith, taken-at g l, kept-is (only p gs) has want g)) in
+      λ i. record { bank = record { balance = balance i }; drawn = taken-is i; left = left-is i }
 
 -- a bank made by a rule is drawn on by that rule
 pub drawn-by-rule : (x : Bank) (f : ℕ → ℕ) (gs : List ℕ) (want : ℕ) → Below 8 gs → x .balance ≡ table 8 f →

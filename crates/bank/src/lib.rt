@@ -1,11 +1,14 @@
 // The bank: one balance a generator, with its own calls and limits (steps 1, 2 and 4 of a closing).
 // Called by this repository's crates only: what a function requires, its callers meet.
 ghost use mathlib.Core.Path.{_≡_};
-ghost use Prim.Native.Nat.{ℕ, _<_, _≤_};
+ghost use Prim.Native.Nat.{ℕ, _-_, _<_, _≤_};
 ghost use lib.Dec.{eqb};
-ghost use Rattle.lists.specs.Pairs.{cell};
+ghost use Rattle.lists.specs.Choice.{if_then_else_};
+ghost use Rattle.lists.specs.Tables.{table};
+ghost use Rattle.lists.specs.Pairs.{place};
 ghost use Rattle.energy.specs.Limits.{mostRank};
 ghost use Rattle.order_rules.specs.Order.{inOrder, only};
+ghost use Rattle.order_rules.specs.Among.{among};
 ghost use Rattle.bank.specs.Arrays.{Creditable, creditOf, drawOf, lapseOf};
 use energy::Wh;
 
@@ -39,6 +42,12 @@ pub struct Drawing {
     pub supplied: [u64; 16],
 }
 
+fn if_linked(link: u64, x: u64) -> u64
+    ensures { λ r. ⌜ r ≡ (if eqb link 1 then x else 0) ⌝ }
+{
+    if link == 1 { x } else { 0 }
+}
+
 impl Bank {
     // The most that a balance, or a month's pending, comes to: what one place meters in the life of a unit.
     pub const MOST_ENERGY: u64 = 2_000_000_000_000_000;
@@ -67,22 +76,43 @@ impl Bank {
         Credit { bank, charge }
     }
 
-    // Step 2 for consumer c: its linked generators give in their order.
-    pub fn draw(self, n: usize, rank: &[u64; 128], link: &[u64; 128], c: usize, want: u64) -> Draw
-        requires { ⌜ (c < 16) × ((n ≤ 8) × ((g : ℕ) → cell 8 16 (now rank) g c ≤ mostRank)) ⌝ }
-        ensures { λ r. ⌜ r ≡ drawOf self (only (λ g. eqb (cell 8 16 (now (link .entry)) g c) 1) (inOrder (λ g. cell 8 16 (now (rank .entry)) g c) n)) want ⌝ }
+    // What each generator has for the consumer whose links these are: nothing where they are not linked.
+    fn linked(self, links: [u64; 8]) -> [u64; 8]
+        ensures { λ r. ⌜ r ≡ table 8 (among (λ g. eqb (place 8 links g) 1) (place 8 (self .balance))) ⌝ }
     {
-        let mut ranks = [0u64; 8];
-        columns::get_column(rank, 8, 16, c, &mut ranks);
-        let mut links = [0u64; 8];
-        columns::get_column(link, 8, 16, c, &mut links);
+        let mut stock = [0u64; 8];
+        let mut g: usize = 0;
+        while g < 8 {
+            stock[g] = if_linked(links[g], self.balance[g]);
+            g += 1;
+        }
+        stock
+    }
+
+    // The bank after so much was drawn of each balance.
+    fn less(self, drawn: [u64; 8]) -> Bank
+        requires { ⌜ ((g : ℕ) → g < 8 → place 8 drawn g ≤ place 8 (self .balance) g) ⌝ }
+        ensures { λ r. ⌜ r .balance ≡ table 8 (λ g. place 8 (self .balance) g - place 8 drawn g) ⌝ }
+    {
+        let mut balance = self.balance;
+        let mut g: usize = 0;
+        while g < 8 {
+            balance[g] -= drawn[g];
+            g += 1;
+        }
+        Bank { balance }
+    }
+
+    // Step 2 for one consumer, by its ranks and links of n generators: those who are linked give in their order.
+    pub fn draw(self, n: usize, ranks: [u64; 8], links: [u64; 8], want: u64) -> Draw
+        requires { ⌜ (n ≤ 8) × ((g : ℕ) → place 8 ranks g ≤ mostRank) ⌝ }
+        ensures { λ r. ⌜ r ≡ drawOf self (only (λ g. eqb (place 8 links g) 1) (inOrder (place 8 ranks) n)) want ⌝ }
+    {
         let turns = order::in_order(ranks, n);
-        let linked = linked::keep(turns, n, links);
-        let at = linked.at;
-        let mut stock = self.balance;
+        let mut stock = self.linked(links);
         let mut drawn = [0u64; 8];
-        let left = settling::settle(&at, linked.count, &mut stock, &mut drawn, want);
-        let bank = Bank { balance: stock };
+        let left = settling::settle(&turns, n, &mut stock, &mut drawn, want);
+        let bank = self.less(drawn);
         Draw { bank, drawn, left }
     }
 

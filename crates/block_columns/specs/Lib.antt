@@ -1,3 +1,2 @@
 pub mod Put
 pub mod PutLaws
-pub mod RankLaws

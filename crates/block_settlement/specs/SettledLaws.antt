@@ -5,10 +5,9 @@ use mathlib.Core.List.{List}
 use mathlib.Core.Logic.{_⊎_, ⊎-elim}
 use native.Mathlib.Omega.{arith}
 use native.Mathlib.Nat.{eq-or-lt-of-le}
-use lib.ListN.{length, getD, length-set}
-use lib.Seq.{getD-set-same, getD-set-other}
+use lib.ListN.{getD}
 use Rattle.lists.specs.PairsLaws.{cell-index}
-use Rattle.order.specs.Arrays.{upto}
+use Rattle.order.specs.Arrays.{turnsOf}
 use Rattle.order_rules.specs.Members.{order-below}
 use Rattle.order_rules.specs.Settle.{given, unmet}
 use Rattle.order_rules.specs.SettleLaws.{kept-is}
@@ -123,8 +122,8 @@ module _ (p : Plan) (E R : ℕ → ℕ) where
 
 -- the same from the arrays that the code settles in: what consumer c's column of the two lists has, in the order that a holds
 pub consumer-settled : {p : Plan} {E R : ℕ → ℕ} {n m c r left rest : ℕ} {taken kept short gone out out′ : List ℕ} {has gap : List ℕ} (a : List ℕ) → n ≡ p .G → m ≡ p .C → n ≤ 8 → c < m → r ≡ R c →
-    upto a n ≡ order p c → ColumnGot n m (2 * (n * m)) c out has → settledIn taken kept left ≡ settled (upto a n) has r →
-    ColumnGot n m (3 * (n * m)) c out gap → settledIn short gone rest ≡ settled (upto a n) gap left →
+    turnsOf a n ≡ order p c → ColumnGot n m (2 * (n * m)) c out has → settledIn taken kept left ≡ settled (turnsOf a n) has r →
+    ColumnGot n m (3 * (n * m)) c out gap → settledIn short gone rest ≡ settled (turnsOf a n) gap left →
     ConsumerPut n m c taken kept short rest out out′ → SettledTo p E R c out → SettledTo p E R (c + 1) out′
 unfolding order
 consumer-settled {p} {E} {R} {n} {m} {c} {has = has} {gap = gap} a en em few within read turns has-is first gap-is second put h =

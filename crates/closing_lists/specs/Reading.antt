@@ -1,21 +1,27 @@
 -- What the steps of an accepted closing read of the bytes. Assumes nothing.
-use Prim.Native.Nat.{ℕ, _+_, _≤_}
+use Prim.Native.Nat.{ℕ, _+_, _*_, _≤_, _<_}
 use mathlib.Core.Path.{_≡_, sym, ap, _∙_}
 use mathlib.Core.Bool.{Bool}
 use mathlib.Core.List.{List}
 use lib.Dec.{eqb}
 use lib.ListN.{getD}
+use Rattle.lists.specs.Tables.{table}
+use Rattle.lists.specs.Pairs.{place}
+use Rattle.energy.specs.Limits.{mostRank}
+use Rattle.order_rules.specs.Order.{inOrder, only}
+use Rattle.delivery_rules.specs.Plan.{order, suppliers}
 use Rattle.codec.specs.Bytes.{decode}
 use Rattle.record.specs.Words.{recordOf}
 use Rattle.record.specs.Called.{numberOn}
 use Rattle.record.specs.declared.Terms.{Terms}
 use Rattle.record.specs.declared.Counts.{Counts}
-use Rattle.record.specs.declared.Links.{Links}
-use Rattle.record.specs.declared.Schedule.{Schedule}
 use Rattle.record.specs.declared.Generators.{Generators}
 use Rattle.record.specs.declared.Consumers.{Consumers}
-use Rattle.layout_rules.specs.Layout.{run, links-at, schedule-at, generators-at, consumers-at}
+use Rattle.layout_rules.specs.Layout.{run, generators-at, consumers-at}
 use Rattle.layout_rules.specs.Places.{terms-places, counts-places}
+use Rattle.layout_rules.specs.OnBytes.{planIn}
+use Rattle.layout_rules.specs.Columns.{rank-column, link-column}
+use Rattle.bank.specs.DrawingLaws.{Drawable}
 use Rattle.closing_rules.specs.Closing.{closingRule}
 use Rattle.closing_steps.specs.Accepted.{StepsRead, gone-few}
 
@@ -23,17 +29,14 @@ module _ (s : List ℕ) where
   abbrev ws : List ℕ
   ws = decode 8 719 s
 
-  pub steps-read : {n m rate : ℕ} {link rank held pending outstanding : List ℕ} → n ≡ getD ws 0 0 → m ≡ getD ws 1 0 → rate ≡ getD ws 2 0 →
-      link ≡ run ws 128 31 → rank ≡ run ws 128 415 → held ≡ run ws 8 607 → pending ≡ run ws 8 615 → outstanding ≡ run ws 16 703 →
-      StepsRead (recordOf ws) n m rate link rank held pending outstanding
-  steps-read n m rate link rank held pending outstanding =
+  pub steps-read : {n m rate : ℕ} {held pending outstanding : List ℕ} → n ≡ getD ws 0 0 → m ≡ getD ws 1 0 → rate ≡ getD ws 2 0 →
+      held ≡ run ws 8 607 → pending ≡ run ws 8 615 → outstanding ≡ run ws 16 703 → StepsRead (recordOf ws) n m rate held pending outstanding
+  steps-read n m rate held pending outstanding =
       let terms = sym (terms-places ws) in
       record {
         generators = n ∙ ap (λ (t : Terms). t .generators) terms;
         consumers = m ∙ ap (λ (t : Terms). t .consumers) terms;
         rate-is = rate ∙ ap (λ (t : Terms). t .rate) terms;
-        link-is = link ∙ ap (λ (x : Links). x .link) (sym (links-at ws));
-        rank-is = rank ∙ ap (λ (x : Schedule). x .rank) (sym (schedule-at ws));
         held-is = held ∙ ap (λ (x : Generators). x .bank) (sym (generators-at ws));
         pending-is = pending ∙ ap (λ (x : Generators). x .pending) (sym (generators-at ws));
         open-is = outstanding ∙ ap (λ (x : Consumers). x .outstanding) (sym (consumers-at ws));
@@ -44,3 +47,12 @@ module _ (s : List ℕ) where
 
   pub ends-so : {gone cycle : ℕ} {ends : Bool} → gone ≡ getD ws 4 0 → cycle ≡ getD ws 3 0 → ends ≡ eqb (gone + 1) cycle → ends ≡ eqb (recordOf ws .counts .gone + 1) (recordOf ws .terms .cycle)
   ends-so gone cycle e = e ∙ rw (gone, cycle, terms-places ws, counts-places ws)
+
+-- one consumer's ranks and links, read where they stand
+module _ (s : List ℕ) {outstanding : List ℕ} {n m : ℕ} (ready : Drawable (planIn s) n m outstanding) (c : ℕ) {ranks : List ℕ} (l : c < 16) (ranks-are : ranks ≡ table 8 (λ g. getD (decode 8 719 s) (415 + c + g * 16) 0)) where
+  pub ranks-high : (g : ℕ) → place 8 ranks g ≤ mostRank
+  ranks-high g = rw (rank-column s c l ranks-are) (ready .rank-high g c)
+
+  pub suppliers-are : {links : List ℕ} → links ≡ table 8 (λ g. getD (decode 8 719 s) (31 + c + g * 16) 0) → only (λ g. eqb (place 8 links g) 1) (inOrder (place 8 ranks) n) ≡ suppliers (planIn s) c
+  unfolding suppliers order
+  suppliers-are links-are = rw (rank-column s c l ranks-are, link-column s c l links-are, ready .G-is)

@@ -5,32 +5,28 @@ ghost use lib.ListN.{length};
 ghost use Rattle.codec.specs.Bytes.{decode};
 ghost use Rattle.record.specs.Called.{numberOn};
 ghost use Rattle.record.specs.Words.{recordOf};
-ghost use Rattle.layout_rules.specs.OnBytes.{bookIn};
-ghost use Rattle.bank.specs.Arrays.{drawingOf, linkPlan};
+ghost use Rattle.layout_rules.specs.OnBytes.{planIn, bookIn};
+ghost use Rattle.bank.specs.Arrays.{drawingOf};
 ghost use Rattle.bank.specs.DrawingLaws.{Drawable};
 ghost use Rattle.closing_rules.specs.Closing.{closingOutput, closingRule};
 ghost use Rattle.closing_steps.specs.Output.{OutputRoom, sixLists};
 use bank::Bank;
 use bank::Drawing;
 
-// Steps 2 and 3: consumers 1 to m draw one after the other. The columns and places from m on stay the zeros that they are made with.
-fn draw_all<'a>(
-    bank: Bank,
-    n: usize,
-    m: usize,
-    rank: &'a [u64; 128],
-    link: &'a [u64; 128],
-    outstanding: [u64; 16],
-) -> Drawing
-    requires { ⌜ Drawable n m (now rank) outstanding ⌝ }
-    ensures { λ r. ⌜ r ≡ drawingOf (linkPlan n m (now (rank .entry)) (now (link .entry))) bank outstanding ⌝ }
+// Steps 2 and 3: consumers 1 to m draw one after the other, each by its ranks and links where they stand in the record's bytes. The columns
+// and places from m on stay the zeros that they are made with.
+fn draw_all(s: &[u8], bank: Bank, n: usize, m: usize, outstanding: [u64; 16]) -> Drawing
+    requires { ⌜ (length (now s) ≡ 5752) × Drawable (planIn (now s)) n m outstanding ⌝ }
+    ensures { λ r. ⌜ r ≡ drawingOf (planIn (now (s .entry))) bank outstanding ⌝ }
 {
     let mut drawn = [0u64; 128];
     let mut supplied = [0u64; 16];
     let mut left = bank;
     let mut c: usize = 0;
     while c < m {
-        let turn = left.draw(n, rank, link, c, outstanding[c]);
+        let ranks = in_place::column_at(s, layout_rules::RANK + c);
+        let links = in_place::column_at(s, layout_rules::LINK + c);
+        let turn = left.draw(n, ranks, links, outstanding[c]);
         let column = turn.drawn;
         let next = turn.bank;
         columns::put_column(&mut drawn, 8, 16, c, &column);
@@ -83,15 +79,13 @@ pub fn make(s: &[u8], out: &mut [u64])
     let rate = in_place::number_at(s, layout_rules::RATE);
     let cycle = in_place::number_at(s, layout_rules::CYCLE);
     let gone = in_place::number_at(s, layout_rules::GONE);
-    let link = loading::load_pairs(s, layout_rules::LINK);
-    let rank = loading::load_pairs(s, layout_rules::RANK);
     let held = loading::load8(s, layout_rules::BANK);
     let pending = loading::load8(s, layout_rules::PENDING);
     let outstanding = loading::load16(s, layout_rules::OUTSTANDING);
     let before = Bank { balance: held };
     let credit = before.credit(pending, rate);
     let charge = credit.charge;
-    let drawing = draw_all(credit.bank, n, m, &rank, &link, outstanding);
+    let drawing = draw_all(s, credit.bank, n, m, outstanding);
     let supplied = drawing.supplied;
     let drawn_on = drawing.bank;
     let lapse = drawn_on.lapse(closing_counts::cycle_ends(gone, cycle));

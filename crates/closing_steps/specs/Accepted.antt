@@ -1,6 +1,6 @@
 -- What an accepted closing may rely on, and that its steps give the output of the rules. Assumes nothing.
 use Prim.Native.Nat.{ℕ, _+_, _*_, _≤_}
-use mathlib.Core.Path.{_≡_, sym, ap, ap₂, _∙_}
+use mathlib.Core.Path.{_≡_, refl, sym, ap, ap₂, _∙_}
 use mathlib.Core.Bool.{Bool}
 use mathlib.Core.List.{List}
 use native.Mathlib.Omega.{arith}
@@ -13,7 +13,7 @@ use Rattle.record.specs.Called.{numberOn}
 use Rattle.record.specs.CalledLaws.{accepted-sound, number-sound, record-facts}
 use Rattle.record.specs.declared.ConsumerTerms.{ConsumerTerms}
 use Rattle.record.specs.declared.Record.{Record}
-use Rattle.bank.specs.Arrays.{Creditable, creditOf, linkPlan, drawingOf, lapseOf}
+use Rattle.bank.specs.Arrays.{Creditable, creditOf, drawingOf, lapseOf}
 use Rattle.bank.specs.DrawingLaws.{Drawable}
 use Rattle.closing_rules.specs.Closing.{closingOutput, closingLength, closingRule}
 use Rattle.bank.specs.declared.Credit.{Credit}
@@ -47,10 +47,12 @@ module _ (r : Record) (size : ℕ) (z : numberOn (closingRule size) r ≡ 0) whe
   unfolding figures generatorAt
   creditable = record { moderate = λ g l. omega (arith, facts .gen g .equation, injected-most (figures r) facts g); rate-high = facts .counts .rate-high }
 
-  pub drawable : Drawable (r .terms .generators) (r .terms .consumers) (r .schedule .rank) (r .consumers .outstanding)
+  pub drawable : Drawable (planOf r) (r .terms .generators) (r .terms .consumers) (r .consumers .outstanding)
   unfolding figures planOf consumerAt noConsumption
   drawable =
       record {
+        G-is = refl;
+        C-is = refl;
         G-high = generators-few;
         C-high = consumers-few;
         rank-high = λ g c. facts .pair g c .rank;
@@ -58,22 +60,20 @@ module _ (r : Record) (size : ℕ) (z : numberOn (closingRule size) r ≡ 0) whe
       }
 
 -- what the steps read of a record
-pub record StepsRead (r : Record) (n m rate : ℕ) (link rank held pending outstanding : List ℕ) : Type 0 where
+pub record StepsRead (r : Record) (n m rate : ℕ) (held pending outstanding : List ℕ) : Type 0 where
   pub generators : n ≡ r .terms .generators
   pub consumers : m ≡ r .terms .consumers
   pub rate-is : rate ≡ r .terms .rate
-  pub link-is : link ≡ r .links .link
-  pub rank-is : rank ≡ r .schedule .rank
   pub held-is : held ≡ r .generators .bank
   pub pending-is : pending ≡ r .generators .pending
   pub open-is : outstanding ≡ r .consumers .outstanding
 
-module _ (r : Record) (size : ℕ) (z : numberOn (closingRule size) r ≡ 0) {n m rate : ℕ} {link rank held pending outstanding : List ℕ} (x : StepsRead r n m rate link rank held pending outstanding) where
+module _ (r : Record) (size : ℕ) (z : numberOn (closingRule size) r ≡ 0) {n m rate : ℕ} {held pending outstanding : List ℕ} (x : StepsRead r n m rate held pending outstanding) where
   pub credit-ready : Creditable (record { balance = held }) pending rate
   credit-ready = rw (x .held-is, x .pending-is, x .rate-is) (creditable r size z)
 
-  pub draw-ready : Drawable n m rank outstanding
-  draw-ready = rw (x .generators, x .consumers, x .rank-is, x .open-is) (drawable r size z)
+  pub draw-ready : Drawable (planOf r) n m outstanding
+  draw-ready = rw (x .generators, x .consumers, x .open-is) (drawable r size z)
 
   pub output-room : {out : List ℕ} → length out ≡ size → OutputRoom out n m
   output-room e =
@@ -81,12 +81,12 @@ module _ (r : Record) (size : ℕ) (z : numberOn (closingRule size) r ≡ 0) {n 
 
   -- the lists that the steps give are the output of the rules
   pub lists-are : {k : Credit} {d : Drawing} {ends : Bool} {l : Lapse} {out : List ℕ} →
-      k ≡ creditOf (record { balance = held }) pending rate → d ≡ drawingOf (linkPlan n m rank link) (k .bank) outstanding → ends ≡ eqb (r .counts .gone + 1) (r .terms .cycle) →
+      k ≡ creditOf (record { balance = held }) pending rate → d ≡ drawingOf (planOf r) (k .bank) outstanding → ends ≡ eqb (r .counts .gone + 1) (r .terms .cycle) →
       l ≡ lapseOf (d .bank) ends → out ≡ sixLists (d .drawn) (k .charge) (l .lapsed) (l .bank .balance) outstanding (d .supplied) n m → out ≡ closingOutput (figures r)
   unfolding monthIn monthWritten
   lists-are {k} {d} {ends} {l} credited drawn-on ended lapsed-so written =
       let credit = rw (x .held-is, x .pending-is, x .rate-is) at credited in
-      let drawing = (rw (x .generators, x .consumers, x .rank-is, x .link-is, x .open-is) at drawn-on) ∙ ap (λ (k : Credit). drawingOf (linkPlan (r .terms .generators) (r .terms .consumers) (r .schedule .rank) (r .links .link)) (k .bank) (r .consumers .outstanding)) credit in
+      let drawing = (rw (x .open-is) at drawn-on) ∙ ap (λ (k : Credit). drawingOf (planOf r) (k .bank) (r .consumers .outstanding)) credit in
       let lapse = lapsed-so ∙ ap₂ (λ (d : Drawing) (e : Bool). lapseOf (d .bank) e) drawing ended in
       let month : monthMade k d l ≡ monthIn r = λ i. monthMade (credit i) (drawing i) (lapse i) in
       written ∙ rw (x .open-is, x .generators, x .consumers)

@@ -1,6 +1,6 @@
 -- Steps 1 to 4 on the arrays of a record are steps 1 to 4 on its figures. Assumes nothing.
-use Prim.Native.Nat.{ℕ, zero, suc, _+_, _≤_, _<_}
-use mathlib.Core.Path.{_≡_, refl, ap, _∙_}
+use Prim.Native.Nat.{ℕ, _+_, _≤_, _<_}
+use mathlib.Core.Path.{_≡_, ap, _∙_}
 use mathlib.Core.List.{List}
 use native.Mathlib.Omega.{arith}
 use lib.Dec.{eqb}
@@ -8,14 +8,12 @@ use Rattle.lists.specs.Choice.{if_then_else_}
 use Rattle.lists.specs.Tables.{table, getD-table, table-same}
 use Rattle.lists.specs.Pairs.{place, pairs}
 use Rattle.lists.specs.PairsLaws.{place-in, place-out, place-table}
-use Rattle.order_rules.specs.Settle.{given, kept, unmet}
-use Rattle.delivery_rules.specs.Plan.{Plan, order, suppliers}
 use Rattle.record.specs.Book.{Book}
 use Rattle.record.specs.Stored.{generatorAt, consumerAt, planOf, figures}
 use Rattle.record.specs.declared.Record.{Record}
 use Rattle.closing_rules.specs.Drawing.{stockAt, drawnAt, missingAt}
 use Rattle.closing_rules.specs.Closing.{takenUp, charge, credited, banks, drawn, supplied, lapses, bankBeforeLapse, lapsed, bankAfter}
-use Rattle.bank.specs.Arrays.{creditOf, linkPlan, drawingOf, lapseOf}
+use Rattle.bank.specs.Arrays.{creditOf, drawingOf, lapseOf}
 use Rattle.bank.specs.declared.Credit.{Credit}
 use Rattle.bank.specs.declared.Drawing.{Drawing}
 use Rattle.bank.specs.declared.Lapse.{Lapse}
@@ -38,7 +36,7 @@ unfoldable pub monthIn : Record → Month
 monthIn r =
     let t = r .terms in
     let credit = creditOf (record { balance = r .generators .bank }) (r .generators .pending) (t .rate) in
-    let drawing = drawingOf (linkPlan (t .generators) (t .consumers) (r .schedule .rank) (r .links .link)) (credit .bank) (r .consumers .outstanding) in
+    let drawing = drawingOf (planOf r) (credit .bank) (r .consumers .outstanding) in
     monthMade credit drawing (lapseOf (drawing .bank) (eqb (r .counts .gone + 1) (t .cycle)))
 
 -- by the figures
@@ -46,25 +44,12 @@ unfoldable pub monthOf : Book → Month
 monthOf b =
     record { charge = table 8 (charge b); drawn = pairs 8 16 (drawn b); supplied = table 16 (supplied b); lapsed = table 8 (lapsed b); balance = table 8 (bankAfter b) }
 
--- drawing looks at the suppliers only
-same-stock : (p q : Plan) (has want : ℕ → ℕ) → ((c : ℕ) → suppliers p c ≡ suppliers q c) → (c : ℕ) → stockAt p has want c ≡ stockAt q has want c
-unfolding stockAt
-same-stock p q has want e zero = refl
-same-stock p q has want e (suc c) = λ i. kept (e c i) (same-stock p q has want e c i) (want c)
-
 module _ (r : Record) where
-  linked : Plan
-  linked = linkPlan (r .terms .generators) (r .terms .consumers) (r .schedule .rank) (r .links .link)
-
   has : ℕ → ℕ
   has = place 8 (table 8 (credited (figures r)))
 
   want : ℕ → ℕ
   want = place 16 (r .consumers .outstanding)
-
-  same-suppliers : (c : ℕ) → suppliers linked c ≡ suppliers (planOf r) c
-  unfolding linked linkPlan planOf suppliers order
-  same-suppliers c = refl
 
   none-beyond : (g : ℕ) → 8 ≤ g → credited (figures r) g ≡ 0
   unfolding credited takenUp figures generatorAt
@@ -74,26 +59,26 @@ module _ (r : Record) where
   unfolding has
   has-is = place-table 8 (credited (figures r)) none-beyond
 
-  stock-is : (c : ℕ) → stockAt linked has want c ≡ banks (figures r) c
+  stock-is : (c : ℕ) → stockAt (planOf r) has want c ≡ banks (figures r) c
   unfolding want banks figures consumerAt
-  stock-is c = ap (λ (h : ℕ → ℕ). stockAt linked h want c) has-is ∙ same-stock linked (planOf r) (credited (figures r)) want same-suppliers c
+  stock-is c = ap (λ (h : ℕ → ℕ). stockAt (planOf r) h want c) has-is
 
-  drawn-is : (g c : ℕ) → drawnAt linked has want g c ≡ drawn (figures r) g c
-  unfolding want drawn drawnAt banks figures consumerAt
-  drawn-is g c = λ i. given (same-suppliers c i) (stock-is c i) (want c) g
+  drawn-is : (g c : ℕ) → drawnAt (planOf r) has want g c ≡ drawn (figures r) g c
+  unfolding want drawn figures consumerAt
+  drawn-is g c = ap (λ (h : ℕ → ℕ). drawnAt (planOf r) h want g c) has-is
 
-  supplied-is : (c : ℕ) → missingAt linked has want c ≡ supplied (figures r) c
-  unfolding want supplied missingAt banks figures consumerAt
-  supplied-is c = λ i. unmet (same-suppliers c i) (stock-is c i) (want c)
+  supplied-is : (c : ℕ) → missingAt (planOf r) has want c ≡ supplied (figures r) c
+  unfolding want supplied figures consumerAt
+  supplied-is c = ap (λ (h : ℕ → ℕ). missingAt (planOf r) h want c) has-is
 
-  stands : (g : ℕ) → g < 8 → place 8 (table 8 (stockAt linked has want (r .terms .consumers))) g ≡ bankBeforeLapse (figures r) g
+  stands : (g : ℕ) → g < 8 → place 8 (table 8 (stockAt (planOf r) has want (r .terms .consumers))) g ≡ bankBeforeLapse (figures r) g
   unfolding bankBeforeLapse figures planOf
   stands g l =
-      let f = stockAt linked has want (r .terms .consumers) in
+      let f = stockAt (planOf r) has want (r .terms .consumers) in
       place-in 8 (table 8 f) g l ∙ getD-table 8 f g 0 l ∙ ap (λ (s : ℕ → ℕ). s g) (stock-is (r .terms .consumers))
 
   pub month-is : monthIn r ≡ monthOf (figures r)
-  unfolding monthIn monthOf creditOf drawingOf lapseOf linked has want credited charge takenUp lapsed bankAfter lapses figures generatorAt planOf linkPlan
+  unfolding monthIn monthOf creditOf drawingOf lapseOf has want credited charge takenUp lapsed bankAfter lapses figures generatorAt planOf
   month-is =
       let ends = eqb (r .counts .gone + 1) (r .terms .cycle) in
       λ i. record {

@@ -9,8 +9,8 @@ use lib.ListN.{length, getD, drop, set, length-set, replicate, length-replicate}
 use lib.Seq.{getD-set-same, getD-set-other, getD-take, getD-drop}
 use borrow.Rule.Slice.PartMut.{midOf, putMid, mid-len, same-len-mid}
 use Rattle.lists.specs.Tables.{table, getD-table, is-table, zeros-at, Filling, filled-before, fill-length}
-use Rattle.lists.specs.Pairs.{cell, pairs}
-use Rattle.lists.specs.PairsLaws.{pairs-table, cell-in, row-of, column-of, cell-index}
+use Rattle.lists.specs.Pairs.{pairs}
+use Rattle.lists.specs.PairsLaws.{pairs-table, row-of, column-of, cell-index}
 use Rattle.arrays.specs.PutLaws.{put-within, put-before, put-after}
 use Rattle.columns.specs.Columns.{ColumnGot, ColumnPut, ColumnAt, Columns}
 
@@ -43,10 +43,6 @@ column-read {n} {w} {c} {list} {l} {xs} {i} h all =
       size = fill-length h;
       at = λ g b. rw zero-add (ap (λ (ys : List ℕ). getD ys g 0) (h .is) ∙ filled-before l i (λ g. getD list (g * w + c) 0) g 0 (omega arith));
     }
-
--- a column of a whole pair list
-pub column-of-pairs : {c : ℕ} {list xs : List ℕ} → c < 16 → ColumnGot 8 16 0 c list xs → xs ≡ table 8 (λ g. cell 8 16 list g c)
-column-of-pairs {c} {list} {xs} l h = is-table 0 8 (λ g. cell 8 16 list g c) xs (h .size) (λ g b. h .at g b ∙ rw zero-add (sym (cell-in 8 16 list g c b l)))
 
 -- a place of a list of at most 8 rows of 16
 pub record Spot (n w g c : ℕ) : Type 0 where

@@ -6,3 +6,4 @@ pub mod OnBytesLaws
 pub mod Kept
 pub mod Raised
 pub mod Replaced
+pub mod Columns

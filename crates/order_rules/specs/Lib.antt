@@ -3,3 +3,4 @@ pub mod Members
 pub mod OrderLaws
 pub mod Settle
 pub mod SettleLaws
+pub mod Among

@@ -29,7 +29,7 @@ lower-at : (has : ℕ → ℕ) (g x : ℕ) → lower has g x g ≡ has g - x
 unfolding lower
 lower-at has g x = rw (eq-eqb g g refl)
 
-lower-other : (has : ℕ → ℕ) (g x h : ℕ) → (h ≡ g → ⊥) → lower has g x h ≡ has h
+pub lower-other : (has : ℕ → ℕ) (g x h : ℕ) → (h ≡ g → ⊥) → lower has g x h ≡ has h
 unfolding lower
 lower-other has g x h e = rw (ne-eqb h g e)
 
@@ -130,7 +130,7 @@ kept-is gs has want g = omega (arith, settle-has gs has want g)
 
 -- ---- what comes earlier is used up before what comes later gives anything
 
-lower-none : (has : ℕ → ℕ) (g x h : ℕ) → x ≡ 0 → lower has g x h ≡ has h
+pub lower-none : (has : ℕ → ℕ) (g x h : ℕ) → x ≡ 0 → lower has g x h ≡ has h
 unfolding lower
 lower-none has g x h e = go (eqb h g)
   where

@@ -1,5 +1,5 @@
 -- Settling of stock kept in an array, and the laws by which its loops are proved. Assumes nothing.
-use Prim.Native.Nat.{ℕ, zero, suc, _+_, _-_, _≤_, _<_, min}
+use Prim.Native.Nat.{ℕ, zero, suc, _+_, _-_, _%_, _≤_, _<_, min}
 use mathlib.Core.Path.{_≡_, refl, sym, ap, _∙_, subst, fun-ext}
 use mathlib.Core.Bool.{Bool, true, false}
 use mathlib.Core.List.{List}
@@ -16,7 +16,7 @@ use Rattle.lists.specs.PairsLaws.{place-in}
 use Rattle.order_rules.specs.Members.{In, Below}
 use Rattle.order_rules.specs.Settle.{Rest, lower, settle, given, kept, unmet}
 use Rattle.order_rules.specs.SettleLaws.{settle-same}
-use Rattle.order.specs.Arrays.{upto, Held, upto-low}
+use Rattle.order.specs.Arrays.{turnsOf, Held}
 
 -- by generator what it gave and what it has left, and what nobody gives
 pub record Settled : Type 0 where
@@ -73,14 +73,14 @@ place-set xs g x h s = fun-ext (λ i. go i (ltb i 8) refl (eqb i g) refl)
 
 -- The invariant of the loop that settles in the order a: the first i places of a have not had their turn.
 pub record Settling (gs : List ℕ) (stock : List ℕ) (want : ℕ) (a has taken : List ℕ) (left i : ℕ) : Type 0 where
-  pub is : settle gs (place 8 stock) want ≡ settle (upto a i) (place 8 has) left
+  pub is : settle gs (place 8 stock) want ≡ settle (turnsOf a i) (place 8 has) left
   pub held : Held a i
   pub size : length has ≡ 8
   pub room : length taken ≡ 8
   pub both : (k : ℕ) → getD taken k 0 + getD has k 0 ≡ getD stock k 0
-  pub waiting : (k : ℕ) → In k (upto a i) → getD taken k 0 ≡ 0
+  pub waiting : (k : ℕ) → In k (turnsOf a i) → getD taken k 0 ≡ 0
 
-pub settle-start : {a stock taken : List ℕ} {want n : ℕ} → Stocked a n stock taken → Settling (upto a n) stock want a stock taken want n
+pub settle-start : {a stock taken : List ℕ} {want n : ℕ} → Stocked a n stock taken → Settling (turnsOf a n) stock want a stock taken want n
 settle-start {a} {stock} {taken} {want} {n} h =
     let z : (k : ℕ) → getD taken k 0 ≡ 0 = λ k. rw (h .nothing) (zeros-at 8 k) in
     record {
@@ -92,30 +92,26 @@ settle-start {a} {stock} {taken} {want} {n} h =
       waiting = λ k m. z k;
     }
 
--- whose turn it is
-pub settle-low : {gs stock : List ℕ} {want : ℕ} {a has taken : List ℕ} {left i : ℕ} → Settling gs stock want a has taken left i → 0 < i → getD a (i - 1) 0 < 8
-settle-low {gs} {stock} {want} {a} {has} {taken} {left} {i} h l = upto-low a i (i - 1) (h .held .low) (omega arith)
-
-pub settle-step : {gs stock : List ℕ} {want : ℕ} {a has taken : List ℕ} {left i x : ℕ} → Settling gs stock want a has taken left i → 0 < i → x ≡ min (getD has (getD a (i - 1) 0) 0) left →
-    Settling gs stock want a (set has (getD a (i - 1) 0) (getD has (getD a (i - 1) 0) 0 - x)) (set taken (getD a (i - 1) 0) x) (left - x) (i - 1)
-unfolding upto settle
+pub settle-step : {gs stock : List ℕ} {want : ℕ} {a has taken : List ℕ} {left i x : ℕ} → Settling gs stock want a has taken left i → 0 < i → x ≡ min (getD has (getD a (i - 1) 0 % 8) 0) left →
+    Settling gs stock want a (set has (getD a (i - 1) 0 % 8) (getD has (getD a (i - 1) 0 % 8) 0 - x)) (set taken (getD a (i - 1) 0 % 8) x) (left - x) (i - 1)
+unfolding turnsOf settle
 settle-step {i = zero} h l q = absurd (omega arith)
 settle-step {gs} {stock} {want} {a} {has} {taken} {left} {i = suc i} {x} h l q =
     let e : suc i - 1 ≡ i = omega arith in
-    let low : g < 8 = h .held .low .0 in
+    let low : g < 8 = omega arith in
     let q′ : x ≡ min (place 8 has g) left = (rw e at q) ∙ ap (λ (y : ℕ). min y left) (sym (place-in 8 has g low)) in
     rw e
     (record {
       is = rw (place-set has g x low (h .size), q′) (h .is);
-      held = record { few = omega (arith, h .held .few); low = h .held .low .1; apart = h .held .apart .1 };
+      held = record { few = omega (arith, h .held .few); apart = h .held .apart .1 };
       size = length-set has g (getD has g 0 - x) ∙ h .size;
       room = length-set taken g x ∙ h .room;
       both = λ k. go k low (rw e at q) (eqb k g) refl;
-      waiting = λ k m. getD-set-other taken g k x 0 (λ r. h .held .apart .0 (subst (λ (y : ℕ). In y (upto a i)) r m)) ∙ h .waiting k (inr m);
+      waiting = λ k m. getD-set-other taken g k x 0 (λ r. h .held .apart .0 (subst (λ (y : ℕ). In y (turnsOf a i)) r m)) ∙ h .waiting k (inr m);
     })
   where
     g : ℕ
-    g = getD a i 0
+    g = getD a i 0 % 8
 
     go : (k : ℕ) → g < 8 → x ≡ min (getD has g 0) left → (t : Bool) → eqb k g ≡ t → getD (set taken g x) k 0 + getD (set has g (getD has g 0 - x)) k 0 ≡ getD stock k 0
     go k b m true e =
@@ -128,7 +124,7 @@ settle-step {gs} {stock} {want} {a} {has} {taken} {left} {i = suc i} {x} h l q =
 
 -- what the code leaves
 pub settle-done : {gs stock : List ℕ} {want : ℕ} {a has taken : List ℕ} {left i : ℕ} → Settling gs stock want a has taken left i → i ≤ 0 → settledIn taken has left ≡ settled gs stock want
-unfolding upto settle settled settledBy given kept unmet
+unfolding turnsOf settle settled settledBy given kept unmet
 settle-done {i = suc i} h l = absurd (omega arith)
 settle-done {gs} {stock} {want} {a} {has} {taken} {left} {i = zero} h l =
     let rest : (k : ℕ) → k < 8 → getD has k 0 ≡ settle gs (place 8 stock) want .has k = λ k b. sym (place-in 8 has k b) ∙ sym (ap (λ (r : Rest). r .has k) (h .is)) in

@@ -7,11 +7,14 @@ use Rattle.block_settlement.specs.SettledLaws.{consumer-settled}
 use Rattle.block_settlement.proofs.settle_one.Statement.{statement}
 use Rattle.block_settlement.proofs.settle_one.Tie as tie
 
-ranks-of-requires : tie.Need-ranks-of-requires
-ranks-of-requires c κs = search needs
+add-column-at : tie.Need-add-column-at
+add-column-at c = search needs
+
+column-at-requires : tie.Need-column-at-requires
+column-at-requires c κs = search needs
 
 in-order-requires : tie.Need-in-order-requires
-in-order-requires c κs = let start = c .before .before .before in (start .pre .0 .n-high, ranks-fit (start .pre .0) _ (c .ranks-of .ensures))
+in-order-requires c κs = let start = c .before .before .before in (start .pre .0 .n-high, ranks-fit (start .pre .0) _ (start .pre .1 .0) (c .column-at .ensures))
 
 mul-size : tie.Need-mul-size
 mul-size c = search needs
@@ -61,14 +64,15 @@ returns c =
     let h = start .pre .0 in
     λ E R q.
     consumer-settled _ (h .n-is) (h .m-is) (h .n-high) (start .pre .1 .0) q
-    (turns-are h (start .args .c) (turns .before .ranks-of .ensures) _ (turns .«in-order» .ensures))
+    (turns-are h (start .args .c) (start .pre .1 .0) (turns .before .column-at .ensures) _ (turns .«in-order» .ensures))
     (has .«get-column-at» .ensures) (first .settle .ensures) (gap .«get-column-at2» .ensures) (second .settle2 .ensures) (put .put-settled .ensures)
 
 pub settle-one-spec : {M : Type 1} → statement M
 settle-one-spec =
     tie.close
     (tie.spec
-    ranks-of-requires
+    add-column-at
+    column-at-requires
     in-order-requires
     mul-size
     mul-get-column-at

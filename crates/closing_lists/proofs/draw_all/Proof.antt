@@ -1,25 +1,50 @@
 -- `closing_lists::draw_all` is steps 2 and 3: c consumers have drawn, and from m on nobody wants anything. Assumes nothing.
-use Prim.Native.Nat.{_-_, _≤_, _<_}
+use Prim.Native.Nat.{ℕ, _-_, _≤_, _<_}
 use mathlib.Core.Path.{_≡_, sym}
 use native.Mathlib.Omega.{arith}
 use borrow.Author.Needs.{needs}
 use Rattle.lists.specs.PairsLaws.{place-in}
 use Rattle.lists.specs.Pairs.{place}
-use Rattle.delivery_rules.specs.Plan.{order, suppliers}
-use Rattle.bank.specs.Arrays.{linkPlan}
+use Rattle.layout_rules.specs.OnBytes.{planIn}
 use Rattle.bank.specs.DrawingLaws.{Drawn, drawing-start, drawing-step, drawing-done}
+use Rattle.closing_lists.specs.Reading.{ranks-high, suppliers-are}
 use Rattle.closing_lists.proofs.draw_all.Statement.{statement}
 use Rattle.closing_lists.proofs.draw_all.Tie as tie
 
 abbrev Inv-loop : tie.InvT-loop
-Inv-loop n m rank link outstanding drawn₀ supplied₀ left₀ c₀ drawn supplied left c =
-    Drawn (linkPlan n m rank link) (place 8 (left₀ .balance)) (place 16 outstanding) c left drawn supplied × (c ≤ m)
+Inv-loop s n m outstanding drawn₀ supplied₀ left₀ c₀ drawn supplied left c =
+    Drawn (planIn s) (place 8 (left₀ .balance)) (place 16 outstanding) c left drawn supplied × (c ≤ m)
 
 abbrev μ-loop : tie.MeasureT-loop
-μ-loop n m rank link outstanding drawn₀ supplied₀ left₀ c₀ drawn supplied left c = m - c
+μ-loop s n m outstanding drawn₀ supplied₀ left₀ c₀ drawn supplied left c = m - c
 
 loop-holds : tie.Need-loop-holds Inv-loop μ-loop
 loop-holds c = (drawing-start _ _ _ (search needs), search needs)
+
+-- in the loop: where the function started, and the consumer whose turn it is
+abbrev In : Type 0
+In = tie.In-loop Inv-loop μ-loop
+
+abbrev start : In → tie.Start Inv-loop μ-loop
+start i = i .before .before .before
+
+abbrev consumer : In → ℕ
+consumer i = i .before .loop .c
+
+within : (i : In) → consumer i < 16
+within i = omega (arith, i .loop-test .taken, start i .pre .1 .C-high)
+
+add-column-at : tie.Need-add-column-at Inv-loop μ-loop
+add-column-at c = search needs
+
+column-at-requires : tie.Need-column-at-requires Inv-loop μ-loop
+column-at-requires c κs = search needs
+
+add-column-at-2 : tie.Need-add-column-at-2 Inv-loop μ-loop
+add-column-at-2 c = search needs
+
+column-at-requires-2 : tie.Need-column-at-requires-2 Inv-loop μ-loop
+column-at-requires-2 c κs = search needs
 
 mul-draw : tie.Need-mul-draw Inv-loop μ-loop
 mul-draw c = search needs
@@ -29,8 +54,8 @@ array-read-draw c = search needs
 
 draw-requires : tie.Need-draw-requires Inv-loop μ-loop
 draw-requires c κs =
-    let p = c .before .before .pre in
-    (search needs, (p .G-high, λ g. p .rank-high g (c .before .loop .c)))
+    let i = c .before .before in
+    (start i .pre .1 .G-high, ranks-high _ (start i .pre .1) (consumer i) (within i) (c .before .column-at .ensures))
 
 slice-aggregate-put-column : tie.Need-slice-aggregate-put-column Inv-loop μ-loop
 slice-aggregate-put-column c = search needs
@@ -51,25 +76,24 @@ loop-less : tie.Need-loop-less Inv-loop μ-loop
 loop-less c = search needs
 
 loop-again : tie.Need-loop-again Inv-loop μ-loop
-unfolding linkPlan order suppliers
 loop-again c =
     let put = c .before in
     let drew = put .before .before .before .before .before in
-    let turn = drew .before in
-    let l = turn .before .loop in
-    let s = turn .before .before in
-    let b : l .c < 16 = omega (arith, turn .loop-test .taken, s .pre .C-high) in (
-      drawing-step (linkPlan (s .args .n) (s .args .m) (s .args .rank .now) (s .args .link .now)) _ _ (s .pre .G-high) b (l .inv .0) (sym (place-in 16 _ _ b)) (drew .draw .ensures) (put .put-column .ensures),
-      omega (arith, turn .loop-test .taken),
+    let linked = drew .before in
+    let ranked = linked .before in
+    let i = ranked .before in
+    let p = start i .pre .1 in
+    let gs = suppliers-are _ p (consumer i) (within i) (ranked .column-at .ensures) (linked .column-at2 .ensures) in (
+      drawing-step _ _ _ (omega (arith, p .G-is, p .G-high)) (within i) (i .before .loop .inv .0) (sym (place-in 16 _ _ (within i))) (rw gs at (drew .draw .ensures)) (put .put-column .ensures),
+      omega (arith, i .loop-test .taken),
     )
 
 returns : tie.Need-returns Inv-loop μ-loop
-unfolding linkPlan
 returns c =
     let l = c .before .loop in
-    let s = c .before .before in
-    let e : l .c ≡ s .args .m = omega arith in
-    drawing-done _ _ _ (s .pre .beyond) (rw e at (l .inv .0))
+    let p = c .before .before .before .pre .1 in
+    let e : l .c ≡ planIn (c .before .before .before .args .s .now) .C = omega (arith, p .C-is) in
+    drawing-done _ _ _ (λ d h. p .beyond d (omega (arith, p .C-is))) (rw e at (l .inv .0))
 
 pub draw-all-spec : {M : Type 1} → statement M
 draw-all-spec =
@@ -78,6 +102,10 @@ draw-all-spec =
     Inv-loop
     μ-loop
     loop-holds
+    add-column-at
+    column-at-requires
+    add-column-at-2
+    column-at-requires-2
     mul-draw
     array-read-draw
     draw-requires

@@ -24,45 +24,52 @@ number-at-requires-4 c κs = (c .before .before .before .before .before .pre .0,
 number-at-requires-5 : tie.Need-number-at-requires-5
 number-at-requires-5 c κs = (c .before .before .before .before .before .before .pre .0, omega arith)
 
-load-pairs-requires : tie.Need-load-pairs-requires
-load-pairs-requires c κs = (c .before .before .before .before .before .before .before .pre .0, omega arith)
-
-load-pairs-requires-2 : tie.Need-load-pairs-requires-2
-load-pairs-requires-2 c κs = (c .before .before .before .before .before .before .before .before .pre .0, omega arith)
-
 load8-requires : tie.Need-load8-requires
-load8-requires c κs = (c .before .before .before .before .before .before .before .before .before .pre .0, omega arith)
+load8-requires c κs = (c .before .before .before .before .before .before .before .pre .0, omega arith)
 
 load8-requires-2 : tie.Need-load8-requires-2
-load8-requires-2 c κs = (c .before .before .before .before .before .before .before .before .before .before .pre .0, omega arith)
+load8-requires-2 c κs = (c .before .before .before .before .before .before .before .before .pre .0, omega arith)
 
 load16-requires : tie.Need-load16-requires
-load16-requires c κs = (c .before .before .before .before .before .before .before .before .before .before .before .pre .0, omega arith)
+load16-requires c κs = (c .before .before .before .before .before .before .before .before .before .pre .0, omega arith)
 
--- what was read of the record
-read : (c : tie.After-load16) → StepsRead (recordOf (decode 8 719 (c .before .before .before .before .before .before .before .before .before .before .before .before .args .s .now))) (c .before .before .before .before .before .before .before .before .before .number-at .result) (c .before .before .before .before .before .before .before .before .number-at2 .result) (c .before .before .before .before .before .before .before .number-at3 .result) (c .before .before .before .before .load-pairs .result) (c .before .before .before .load-pairs2 .result) (c .before .before .load8 .result) (c .before .load82 .result) (c .load16 .result)
-read c = steps-read _ (c .before .before .before .before .before .before .before .before .before .number-at .ensures) (c .before .before .before .before .before .before .before .before .number-at2 .ensures) (c .before .before .before .before .before .before .before .number-at3 .ensures) (c .before .before .before .before .load-pairs .ensures) (c .before .before .before .load-pairs2 .ensures) (c .before .before .load8 .ensures) (c .before .load82 .ensures) (c .load16 .ensures)
+-- when all is read: where the function started, and what was read of the record
+abbrev start : tie.After-load16 → tie.Start
+start c = c .before .before .before .before .before .before .before .before .before .before
+
+read : (c : tie.After-load16) → StepsRead (recordOf (decode 8 719 (start c .args .s .now))) (c .before .before .before .before .before .before .before .number-at .result) (c .before .before .before .before .before .before .number-at2 .result) (c .before .before .before .before .before .number-at3 .result) (c .before .before .load8 .result) (c .before .load82 .result) (c .load16 .result)
+read c = steps-read _ (c .before .before .before .before .before .before .before .number-at .ensures) (c .before .before .before .before .before .before .number-at2 .ensures) (c .before .before .before .before .before .number-at3 .ensures) (c .before .before .load8 .ensures) (c .before .load82 .ensures) (c .load16 .ensures)
 
 credit-requires : tie.Need-credit-requires
-credit-requires c κs = credit-ready _ _ (c .before .before .before .before .before .before .before .before .before .before .before .before .pre .1) (read c)
+credit-requires c κs = credit-ready _ _ (start c .pre .1) (read c)
 
 draw-all-requires : tie.Need-draw-all-requires
-draw-all-requires c κs = draw-ready _ _ (c .before .before .before .before .before .before .before .before .before .before .before .before .before .before .before .before .pre .1) (read (c .before .before .before .before))
+draw-all-requires c κs = let r = c .before .before in (start r .pre .0, draw-ready _ _ (start r .pre .1) (read r))
 
 cycle-ends-requires : tie.Need-cycle-ends-requires
-cycle-ends-requires c κs = gone-low _ _ (c .before .before .before .before .before .before .before .before .before .before .before .before .before .before .before .before .before .before .before .pre .1) (c .before .before .before .before .before .before .before .before .before .before .before .before .number-at5 .ensures)
+cycle-ends-requires c κs = let r = c .before .before .before .before .before in gone-low _ _ (start r .pre .1) (r .before .before .before .number-at5 .ensures)
 
 lapse-requires : tie.Need-lapse-requires
 lapse-requires c κs = search needs
 
 write-lists-requires : tie.Need-write-lists-requires
-write-lists-requires c κs = output-room _ _ (c .before .before .before .before .before .before .before .before .before .before .before .before .before .before .before .before .before .before .before .before .before .before .before .before .before .before .before .pre .1) (read (c .before .before .before .before .before .before .before .before .before .before .before .before .before .before .before)) refl
+write-lists-requires c κs =
+    let r = c .before .before .before .before .before .before .before .before .before .before .before .before .before in
+    output-room _ _ (start r .pre .1) (read r) refl
 
 same-length : tie.Need-same-length
 same-length c = search needs
 
 returns : tie.Need-returns
-returns c = lists-are _ _ (c .before .before .before .before .before .before .before .before .before .before .before .before .before .before .before .before .before .before .before .before .before .before .before .before .before .before .before .before .before .before .pre .1) (read (c .before .before .before .before .before .before .before .before .before .before .before .before .before .before .before .before .before .before)) (c .before .before .before .before .before .before .before .before .before .before .before .before .before .before .before .before .before .credit .ensures) (c .before .before .before .before .before .before .before .before .before .before .before .before .before .draw-all .ensures) (ends-so _ (c .before .before .before .before .before .before .before .before .before .before .before .before .before .before .before .before .before .before .before .before .before .before .before .number-at5 .ensures) (c .before .before .before .before .before .before .before .before .before .before .before .before .before .before .before .before .before .before .before .before .before .before .before .before .number-at4 .ensures) (c .before .before .before .before .before .before .before .before .before .before .cycle-ends .ensures)) (c .before .before .before .before .before .before .before .before .before .lapse .ensures) (c .before .before .write-lists .ensures)
+returns c =
+    let lapsed = c .before .before .before .before .before .before .before .before .before in
+    let ended = lapsed .before in
+    let drew = ended .before .before .before in
+    let credited = drew .before .before in
+    let r = credited .before in
+    lists-are _ _ (start r .pre .1) (read r) (credited .credit .ensures) (drew .draw-all .ensures)
+    (ends-so _ (r .before .before .before .number-at5 .ensures) (r .before .before .before .before .number-at4 .ensures) (ended .cycle-ends .ensures))
+    (lapsed .lapse .ensures) (c .before .before .write-lists .ensures)
 
 pub make-spec : {M : Type 1} → statement M
 make-spec =
@@ -73,8 +80,6 @@ make-spec =
     number-at-requires-3
     number-at-requires-4
     number-at-requires-5
-    load-pairs-requires
-    load-pairs-requires-2
     load8-requires
     load8-requires-2
     load16-requires

@@ -1,62 +1,33 @@
--- `bank::Bank::draw` is step 2 for one consumer: the array holds its suppliers in their order. Assumes nothing.
-use mathlib.Core.Path.{_≡_, refl}
-use lib.ListN.{length}
+-- `bank::Bank::draw` is step 2 for one consumer: all settle in their order, of whom those who are not linked have nothing. Assumes nothing.
+use mathlib.Core.Path.{refl}
 use native.Mathlib.Omega.{arith}
 use borrow.Author.Needs.{needs}
-use Rattle.energy.specs.Limits.{mostRank}
-use Rattle.order.specs.Arrays.{column-ranks, order-held}
-use Rattle.linked.specs.Keeping.{kept-held}
-use Rattle.columns.specs.ColumnsLaws.{column-of-pairs}
-use Rattle.bank.specs.BankLaws.{draw-is}
+use Rattle.order.specs.Arrays.{order-held}
+use Rattle.bank.specs.BankLaws.{taken-few, draw-is}
 use Rattle.bank.proofs.Bank.draw.Statement.{statement}
 use Rattle.bank.proofs.Bank.draw.Tie as tie
 
-size : (s : tie.Start) → length (s .args .self .balance) ≡ 8
-size s = search needs
-
-get-column-requires : tie.Need-get-column-requires
-get-column-requires c κs = search needs
-
-get-column-requires-2 : tie.Need-get-column-requires-2
-get-column-requires-2 c κs = search needs
-
 in-order-requires : tie.Need-in-order-requires
-in-order-requires c κs =
-    let got = c .before .before .before in
-    let s = got .before .before .before in
-    let p = s .pre .1 in
-    (p .0, column-ranks _ _ mostRank (omega arith) (column-of-pairs (s .pre .0) (got .get-column .ensures)) (p .1))
+in-order-requires c κs = (c .pre .0, λ g. omega (arith, c .pre .1 g))
 
-keep-requires : tie.Need-keep-requires
-keep-requires c κs = order-held _ (c .before .before .before .before .before .before .before .pre .1 .0) (c .«in-order» .ensures)
+linked-requires : tie.Need-linked-requires
+linked-requires c κs = search needs
 
 settle-requires : tie.Need-settle-requires
 settle-requires c κs =
-    let kept = c .before .before .before .before .before in
-    let s = kept .before .before .before .before .before .before .before .before in
-    record {
-      held = kept-held (order-held _ (s .pre .1 .0) (kept .before .«in-order» .ensures)) (kept .keep .ensures);
-      size = size s;
-      nothing = refl;
-    }
+    let stocked = c .before .before .before in
+    record { held = order-held _ (stocked .before .before .pre .0) (stocked .before .«in-order» .ensures); size = search needs; nothing = refl }
+
+less-requires : tie.Need-less-requires
+less-requires c κs =
+    let stocked = c .before .before .before .before in
+    taken-few _ _ _ _ _ (stocked .before .before .pre .0) (stocked .before .«in-order» .ensures) (stocked .linked .ensures) (c .settle .ensures)
 
 returns : tie.Need-returns
 returns c =
-    let kept = c .before .before .before .before .before .before in
-    let ordered = kept .before in
-    let second = ordered .before in
-    let first = second .before .before .before in
-    let s = first .before .before .before in
-    let b = s .pre .0 in
-    draw-is _ _ _ _ _ _ (column-of-pairs b (first .get-column .ensures)) (column-of-pairs b (second .get-column2 .ensures)) (ordered .«in-order» .ensures) (kept .keep .ensures .is) (c .settle .ensures)
+    let settled = c .before in
+    let stocked = settled .before .before .before .before in
+    draw-is _ _ _ _ _ (stocked .before .before .pre .0) (stocked .before .«in-order» .ensures) (stocked .linked .ensures) (settled .settle .ensures) (c .less .ensures)
 
 pub draw-spec : {M : Type 1} → statement M
-draw-spec =
-    tie.close
-    (tie.spec
-    get-column-requires
-    get-column-requires-2
-    in-order-requires
-    keep-requires
-    settle-requires
-    returns)
+draw-spec = tie.close (tie.spec in-order-requires linked-requires settle-requires less-requires returns)

@@ -1,21 +1,17 @@
--- `block_columns::ranks_of` meets its contract: g ranks are read. Assumes nothing.
-use Prim.Native.Nat.{_-_}
-use mathlib.Core.Path.{_∙_}
+-- `in_place::column_at` meets its contract: g numbers are read. Assumes nothing.
+use Prim.Native.Nat.{_+_, _-_, _*_}
+use lib.ListN.{getD}
 use borrow.Author.Needs.{needs}
 use Rattle.lists.specs.Tables.{Filling, fill-start, fill-step, fill-done}
-use Rattle.layout_rules.specs.OnBytes.{planIn}
-use Rattle.block_columns.specs.RankLaws.{rank-at}
-use Rattle.block_columns.proofs.ranks_of.Statement.{statement}
-use Rattle.block_columns.proofs.ranks_of.Tie as tie
+use Rattle.codec.specs.Bytes.{decode}
+use Rattle.in_place.proofs.column_at.Statement.{statement}
+use Rattle.in_place.proofs.column_at.Tie as tie
 
 abbrev Inv-loop : tie.InvT-loop
-Inv-loop s c from ranks₀ g₀ ranks g = Filling 8 (λ h. planIn s .rank h c) ranks₀ g ranks
+Inv-loop s at xs₀ g₀ xs g = Filling 8 (λ h. getD (decode 8 719 s) (at + h * 16) 0) xs₀ g xs
 
 abbrev μ-loop : tie.MeasureT-loop
-μ-loop s c from ranks₀ g₀ ranks g = 8 - g
-
-add-from : tie.Need-add-from Inv-loop μ-loop
-add-from c = search needs
+μ-loop s at xs₀ g₀ xs g = 8 - g
 
 loop-holds : tie.Need-loop-holds Inv-loop μ-loop
 loop-holds c = fill-start (search needs)
@@ -29,11 +25,11 @@ add-number-at c = search needs
 number-at-requires : tie.Need-number-at-requires Inv-loop μ-loop
 number-at-requires c κs = search needs
 
-mul-ranks : tie.Need-mul-ranks Inv-loop μ-loop
-mul-ranks c = search needs
+mul-xs : tie.Need-mul-xs Inv-loop μ-loop
+mul-xs c = search needs
 
-array-write-ranks : tie.Need-array-write-ranks Inv-loop μ-loop
-array-write-ranks c = search needs
+array-write-xs : tie.Need-array-write-xs Inv-loop μ-loop
+array-write-xs c = search needs
 
 add-g : tie.Need-add-g Inv-loop μ-loop
 add-g c = search needs
@@ -42,24 +38,23 @@ loop-less : tie.Need-loop-less Inv-loop μ-loop
 loop-less c = search needs
 
 loop-again : tie.Need-loop-again Inv-loop μ-loop
-loop-again c = fill-step (c .before .before .loop .inv) (search needs) (c .number-at .ensures ∙ rank-at _ _ _ (search needs) (search needs))
+loop-again c = fill-step (c .before .before .loop .inv) (search needs) (c .number-at .ensures)
 
 returns : tie.Need-returns Inv-loop μ-loop
 returns c = fill-done (c .before .loop .inv) (search needs)
 
-pub ranks-of-spec : {M : Type 1} → statement M
-ranks-of-spec =
+pub column-at-spec : {M : Type 1} → statement M
+column-at-spec =
     tie.close
     (tie.spec
     Inv-loop
     μ-loop
-    add-from
     loop-holds
     mul-number-at
     add-number-at
     number-at-requires
-    mul-ranks
-    array-write-ranks
+    mul-xs
+    array-write-xs
     add-g
     loop-less
     loop-again

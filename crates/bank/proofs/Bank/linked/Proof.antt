@@ -1,0 +1,76 @@
+-- `bank::Bank::linked` meets its contract: g places are filled. Assumes nothing.
+use Prim.Native.Nat.{_-_}
+use mathlib.Core.Path.{_∙_}
+use lib.Dec.{eqb}
+use borrow.Author.Needs.{needs}
+use Rattle.lists.specs.Tables.{Filling, fill-start, fill-step, fill-done}
+use Rattle.lists.specs.Pairs.{place}
+use Rattle.lists.specs.PairsLaws.{place-in}
+use Rattle.order_rules.specs.Among.{among}
+use Rattle.bank.proofs.Bank.linked.Statement.{statement}
+use Rattle.bank.proofs.Bank.linked.Tie as tie
+
+abbrev Inv-loop : tie.InvT-loop
+Inv-loop self links stock₀ g₀ stock g = Filling 8 (among (λ h. eqb (place 8 links h) 1) (place 8 (self .balance))) stock₀ g stock
+
+abbrev μ-loop : tie.MeasureT-loop
+μ-loop self links stock₀ g₀ stock g = 8 - g
+
+loop-holds : tie.Need-loop-holds Inv-loop μ-loop
+loop-holds c = fill-start (search needs)
+
+mul-if-linked : tie.Need-mul-if-linked Inv-loop μ-loop
+mul-if-linked c = search needs
+
+array-read-if-linked : tie.Need-array-read-if-linked Inv-loop μ-loop
+array-read-if-linked c = search needs
+
+mul-if-linked-2 : tie.Need-mul-if-linked-2 Inv-loop μ-loop
+mul-if-linked-2 c = search needs
+
+element-copy-out-if-linked : tie.Need-element-copy-out-if-linked Inv-loop μ-loop
+element-copy-out-if-linked c = search needs
+
+if-linked-requires : tie.Need-if-linked-requires Inv-loop μ-loop
+if-linked-requires c κs = search needs
+
+mul-stock : tie.Need-mul-stock Inv-loop μ-loop
+mul-stock c = search needs
+
+array-write-stock : tie.Need-array-write-stock Inv-loop μ-loop
+array-write-stock c = search needs
+
+add-g : tie.Need-add-g Inv-loop μ-loop
+add-g c = search needs
+
+loop-less : tie.Need-loop-less Inv-loop μ-loop
+loop-less c = search needs
+
+loop-again : tie.Need-loop-again Inv-loop μ-loop
+unfolding among
+loop-again c =
+    let l = c .before .before .before .loop in
+    let a = c .before .before .before .before .args in
+    fill-step (l .inv) (search needs) (c .if-linked .ensures ∙ rw (place-in 8 (a .t2) (l .g) (search needs), place-in 8 (a .t1 .balance) (l .g) (search needs)))
+
+returns : tie.Need-returns Inv-loop μ-loop
+returns c = fill-done (c .before .loop .inv) (search needs)
+
+pub linked-spec : {M : Type 1} → statement M
+linked-spec =
+    tie.close
+    (tie.spec
+    Inv-loop
+    μ-loop
+    loop-holds
+    mul-if-linked
+    array-read-if-linked
+    mul-if-linked-2
+    element-copy-out-if-linked
+    if-linked-requires
+    mul-stock
+    array-write-stock
+    add-g
+    loop-less
+    loop-again
+    returns)
