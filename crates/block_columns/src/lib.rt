@@ -22,5 +22,5 @@ pub fn put_settled(
     columns::put_column_at(out, size, n, m, c, setoff);
     columns::put_column_at(out, 2 * size, n, m, c, underdrawn);
     columns::put_column_at(out, 3 * size, n, m, c, shortfall);
-    out[4 * size + n + c] = remainder;
+    columns::put_number_at(out, 4 * size + n, m, c, remainder);
 }

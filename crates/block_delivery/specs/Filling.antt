@@ -3,7 +3,7 @@ use Prim.Native.Nat.{ℕ, _+_, _-_, _*_, _/_, _%_, _≤_, _<_}
 use mathlib.Core.Path.{_≡_, _∙_}
 use mathlib.Core.List.{List}
 use mathlib.Core.Logic.{⊎-elim}
-use native.Mathlib.Nat.{eq-or-lt-of-le, add-zero, add-mul, mul-le-mul}
+use native.Mathlib.Nat.{eq-or-lt-of-le, add-zero, zero-add, add-mul, mul-le-mul}
 use native.Mathlib.Omega.{arith}
 use lib.ListN.{length, set, length-set, getD}
 use lib.Seq.{getD-set-same, getD-set-other}
@@ -90,11 +90,12 @@ module _ {p : Plan} {E : ℕ → ℕ} {n m : ℕ} where
 
   pub generator-more :
       {i g v : ℕ} {out : List ℕ} →
-      Filled p E n m i g out → i ≤ n * m → g < n → v ≡ unaccounted p g (E g) → Filled p E n m i (g + 1) (set out (4 * (n * m) + g) v)
-  generator-more {i} {g} {v} {out} h b l e =
+      Filled p E n m i g out → i ≤ n * m → g < n → v ≡ unaccounted p g (E g) → {out′ : List ℕ} → out′ ≡ set out (4 * (n * m) + g) v → Filled p E n m i (g + 1) out′
+  generator-more {i} {g} {v} {out} h b l e put =
       let at : ℕ = 4 * (n * m) + g in
       let other : (k : ℕ) → (k ≡ at → ⊥) → getD (set out at v) k 0 ≡ getD out k 0 = λ k q. getD-set-other out at k v 0 q in
-      record {
+      rw put
+      (record {
         size = simp length-set (h .size);
         loss-is = λ k o. other k (λ q. omega arith) ∙ h .loss-is k o;
         delivered-is = λ k o. other (2 * (n * m) + k) (λ q. omega arith) ∙ h .delivered-is k o;
@@ -102,19 +103,21 @@ module _ {p : Plan} {E : ℕ → ℕ} {n m : ℕ} where
         unaccounted-is =
             next (λ k. 4 * (n * m) + k) (λ k. unaccounted p k (E k)) g out (set out at v) (h .unaccounted-is)
             (λ k o. other (4 * (n * m) + k) (λ q. omega arith)) (getD-set-same out at v 0 (omega (arith, h .size)) ∙ e);
-      }
+      })
 
   -- the next pair of row g
   pub pair-more :
-      {g c j : ℕ} {out : List ℕ} {r : Pair} →
+      {g c j : ℕ} {out out₁ out₂ out₃ : List ℕ} {r : Pair} →
       Filled p E n m (g * m + c) j out → g < n → c < m → PairOf p g (E g) c r →
-      Filled p E n m (g * m + (c + 1)) j (set (set (set out (g * m + c) (r .lost)) (2 * (n * m) + (g * m + c)) (r .arrived)) (3 * (n * m) + (g * m + c)) (r .missing))
+      out₁ ≡ set out (0 + (g * m + c)) (r .lost) → out₂ ≡ set out₁ (2 * (n * m) + (g * m + c)) (r .arrived) → out₃ ≡ set out₂ (3 * (n * m) + (g * m + c)) (r .missing) →
+      Filled p E n m (g * m + (c + 1)) j out₃
   unfolding stored two one
-  pair-more {g} {c} {j} {out} {r} h l b o =
+  pair-more {g} {c} {j} {out} {r = r} h l b o e₁ e₂ e₃ =
       let w : i < s = cell-index n m g c l b in
       let room : 4 * s ≤ length out = omega (arith, h .size) in
       let l′ : List ℕ = stored out s i (r .lost) (r .arrived) (r .missing) w room in
-      record {
+      rw (e₃, e₂, e₁, zero-add i)
+      (record {
         size = simp length-set (h .size);
         loss-is =
             λ k q. next (λ k. k) (λ k. lossOf p (k / m) (E (k / m)) (k % m)) i out l′ (h .loss-is)
@@ -126,7 +129,7 @@ module _ {p : Plan} {E : ℕ → ℕ} {n m : ℕ} where
             λ k q. next (λ k. 3 * s + k) (λ k. atExit p (k / m) (E (k / m)) (k % m) - delivered p (k / m) (E (k / m)) (k % m)) i out l′ (h .gap-is)
             (before-third out s i _ _ _ w room) (third out s i _ _ _ w room ∙ here (λ g c. atExit p g (E g) c - delivered p g (E g) c) (o .missing-is)) k (omega arith);
         unaccounted-is = λ k u. later out s i _ _ _ w room k ∙ h .unaccounted-is k u;
-      }
+      })
     where
       s : ℕ
       s = n * m

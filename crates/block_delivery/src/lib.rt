@@ -63,9 +63,9 @@ fn deliver_row(
         let at = g * m + c;
         let rate = in_place::number_at(s, from + c);
         let pair = block_pair::pair_at(kind, row, parts, c, rate);
-        out[at] = pair.lost;
-        out[2 * size + at] = pair.arrived;
-        out[3 * size + at] = pair.missing;
+        columns::put_number_at(out, 0, size, at, pair.lost);
+        columns::put_number_at(out, 2 * size, size, at, pair.arrived);
+        columns::put_number_at(out, 3 * size, size, at, pair.missing);
         c += 1;
     }
 }
@@ -89,7 +89,7 @@ fn deliver_one(
     let counts = block_counting::counted(kind, scheduled, reading);
     let parts = sharing::share(counts, row);
     deliver_row(s, n, m, g, kind, &row, &parts, out);
-    out[4 * (n * m) + g] = lists::wide(reading - counts);
+    columns::put_number_at(out, 4 * (n * m), n, g, lists::wide(reading - counts));
 }
 
 // By pair, in the stretches of loss, underdrawn and shortfall: the loss, what is delivered, and how much less that is than what is

@@ -1,12 +1,15 @@
 -- The laws by which columns of a list, and of a stretch that holds one, are read and put. Assumes nothing.
 use Prim.Native.Nat.{ℕ, _+_, _-_, _*_, _/_, _%_, _≤_, _<_}
 use mathlib.Core.Path.{_≡_, refl, sym, ap, _∙_}
+use mathlib.Core.Bool.{Bool, true, false}
 use mathlib.Core.List.{List}
 use mathlib.Core.Logic.{⊎-elim}
 use native.Mathlib.Nat.{eq-or-lt-of-le, eq-zero-or-pos, mul-le-mul, zero-add}
 use native.Mathlib.Omega.{arith}
+use borrow.Author.Tests.{eqb-true, eqb-false}
+use lib.Dec.{eqb}
 use lib.ListN.{length, getD, drop, set, length-set, replicate, length-replicate}
-use lib.Seq.{getD-set-same, getD-set-other, getD-take, getD-drop}
+use lib.Seq.{ext-getD, getD-set-same, getD-set-other, getD-take, getD-drop}
 use borrow.Rule.Slice.PartMut.{midOf, putMid, mid-len, same-len-mid}
 use Rattle.lists.specs.Tables.{table, getD-table, is-table, zeros-at, Filling, filled-before, fill-length}
 use Rattle.lists.specs.Pairs.{pairs}
@@ -81,6 +84,55 @@ module _ (n w o e c : ℕ) (whole : o + n * w ≡ e) (in-column : c < w) where
   -- a column read from the stretch
   pub column-got : {out xs : List ℕ} → ColumnGot n w 0 c (midOf o (e - o) out) xs → ColumnGot n w o c out xs
   column-got {out} h = record { size = h .size; at = λ g l. h .at g l ∙ rw zero-add (stretch-at out g c l in-column) }
+
+-- ---- one number put into the stretch of a slice from place o on and before place e
+
+module _ (o e i x : ℕ) (out : List ℕ) (l : o + i < e) (fits : e ≤ length out) where
+  lent : List ℕ
+  lent = midOf o (e - o) out
+
+  back : List ℕ
+  back = set lent i x
+
+  lent-size : length lent ≡ e - o
+  unfolding lent
+  lent-size = mid-len o e out fits
+
+  back-size : length back ≡ e - o
+  unfolding back
+  back-size = length-set lent i x ∙ lent-size
+
+  elsewhere : (k : ℕ) → (k ≡ o + i → ⊥) → getD (set out (o + i) x) k 0 ≡ getD out k 0
+  elsewhere k ne = getD-set-other out (o + i) k x 0 ne
+
+  within : (j : ℕ) → o + j < e → getD back j 0 ≡ getD (set out (o + i) x) (o + j) 0
+  unfolding back lent
+  within j b = go (eqb j i) refl
+    where
+      go : (t : Bool) → eqb j i ≡ t → getD back j 0 ≡ getD (set out (o + i) x) (o + j) 0
+      go true t = rw (eqb-true j i t) (getD-set-same lent i x 0 (omega (arith, lent-size)) ∙ sym (getD-set-same out (o + i) x 0 (omega arith)))
+      go false t =
+          let ne = eqb-false j i t in
+          getD-set-other lent i j x 0 ne ∙ getD-take (e - o) (drop o out) j 0 (omega arith) ∙ getD-drop o out j 0 ∙ sym (elsewhere (o + j) (λ q. ne (omega arith)))
+
+  pub number-put : putMid o (e - o) out (set (midOf o (e - o) out) i x) ≡ set out (o + i) x
+  unfolding back lent
+  number-put =
+      ext-getD 0 (putMid o (e - o) out back) (set out (o + i) x) (same-len-mid o (e - o) out back (length-set lent i x) ∙ sym (length-set out (o + i) x)) at
+    where
+      at : (k : ℕ) → k < length (putMid o (e - o) out back) → getD (putMid o (e - o) out back) k 0 ≡ getD (set out (o + i) x) k 0
+      at k b =
+          ⊎-elim
+          (λ (q : o - k ≡ 0).
+          ⊎-elim
+          (λ (r : e - k ≡ 0). put-after o (e - o) out back k (omega arith) back-size (omega arith) ∙ sym (elsewhere k (λ z. omega arith)))
+          (λ (r : 0 < e - k).
+          let j : ℕ = k - o in
+          let z : o + j ≡ k = omega arith in
+          rw (← (z)) (put-within o (e - o) out back j (omega arith) (omega (arith, back-size)) ∙ within j (omega arith)))
+          (eq-zero-or-pos (e - k)))
+          (λ (q : 0 < o - k). put-before o (e - o) out back k (omega arith) (omega arith) ∙ sym (elsewhere k (λ z. omega arith)))
+          (eq-zero-or-pos (o - k))
 
 -- ---- a pair list that is filled column by column
 

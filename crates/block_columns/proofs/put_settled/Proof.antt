@@ -1,5 +1,4 @@
 -- `block_columns::put_settled` meets its contract: the lists are put one after the other, and the remainder last. Assumes nothing.
-use mathlib.Core.Path.{refl}
 use borrow.Author.Needs.{needs}
 use Rattle.block_columns.specs.PutLaws.{put-length}
 use Rattle.block_columns.proofs.put_settled.Statement.{statement}
@@ -23,24 +22,19 @@ mul-put-column-at-2 c = search needs
 put-column-at-requires-3 : tie.Need-put-column-at-requires-3
 put-column-at-requires-3 c κs = search needs
 
-mul-out : tie.Need-mul-out
-mul-out c = search needs
+mul-put-number-at : tie.Need-mul-put-number-at
+mul-put-number-at c = search needs
 
-add-out : tie.Need-add-out
-add-out c = search needs
+add-put-number-at : tie.Need-add-put-number-at
+add-put-number-at c = search needs
 
-add-out-2 : tie.Need-add-out-2
-add-out-2 c = search needs
-
-mul-out-2 : tie.Need-mul-out-2
-mul-out-2 c = search needs
-
-slice-write-out : tie.Need-slice-write-out
-slice-write-out c = search needs
+put-number-at-requires : tie.Need-put-number-at-requires
+put-number-at-requires c κs = search needs
 
 returns : tie.Need-returns
 returns c =
-    let third = c .before .before in
+    let fourth = c .before .before in
+    let third = fourth .before .before .before .before in
     let second = third .before .before .before .before in
     let first = second .before .before .before .before in
     record {
@@ -50,7 +44,7 @@ returns c =
       setoff-put = first .«put-column-at» .ensures;
       underdrawn-put = second .«put-column-at2» .ensures;
       shortfall-put = third .«put-column-at3» .ensures;
-      remainder-put = refl;
+      remainder-put = fourth .put-number-at .ensures;
     }
 
 same-length : tie.Need-same-length
@@ -66,10 +60,8 @@ put-settled-spec =
     put-column-at-requires-2
     mul-put-column-at-2
     put-column-at-requires-3
-    mul-out
-    add-out
-    add-out-2
-    mul-out-2
-    slice-write-out
+    mul-put-number-at
+    add-put-number-at
+    put-number-at-requires
     same-length
     returns)

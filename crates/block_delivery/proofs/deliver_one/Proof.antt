@@ -1,7 +1,7 @@
 -- `block_delivery::deliver_one` is rules 1 to 4 for generator g. Assumes nothing.
 use Prim.Native.Nat.{ℕ, _+_, _*_, _≤_}
 use mathlib.Core.Path.{_≡_, sym, _∙_}
-use native.Mathlib.Nat.{mul-le-mul, mul-le-mul-right}
+use native.Mathlib.Nat.{mul-le-mul-right}
 use native.Mathlib.Omega.{arith}
 use borrow.Author.Needs.{needs}
 use lib.ListN.{getD}
@@ -59,8 +59,8 @@ row-is c =
       parts-are = parts-here (plan s) (entries s) (s .pre .0 .deliverable) (s .args .g) row (counted-is (c .before)) (c .share .ensures);
     }
 
-few : (s : tie.Start) → ((s .args .g + 1) * s .args .m ≤ s .args .n * s .args .m) × (s .args .n * s .args .m ≤ 128)
-few s = (mul-le-mul-right (s .args .m) (omega arith), mul-le-mul {n₂ = 8} {m₂ = 16} (omega arith) (omega arith))
+few : (s : tie.Start) → (s .args .g + 1) * s .args .m ≤ s .args .n * s .args .m
+few s = mul-le-mul-right (s .args .m) (omega arith)
 
 mul-number-at : tie.Need-mul-number-at
 mul-number-at c = search needs
@@ -101,34 +101,23 @@ deliver-row-requires c κs =
       pairs-ready = λ i l. pair-ready (plan s) (entries s) (s .pre .0 .deliverable) (s .args .g) (row-is k) i (search needs);
     }
 
+mul-put-number-at : tie.Need-mul-put-number-at
+mul-put-number-at c = search needs
+
+mul-put-number-at-2 : tie.Need-mul-put-number-at-2
+mul-put-number-at-2 c = search needs
+
 sub-wide : tie.Need-sub-wide
 sub-wide c =
-    let k = c .before .before .before .before .before .before .before in
+    let k = c .before .before .before .before .before .before .before .before in
     let s = start-of-counted k in
     omega (arith, counted-is k, reading-is s, counted-le (plan s) (s .args .g) (entries s (s .args .g)))
 
 wide-requires : tie.Need-wide-requires
 wide-requires c κs = search needs
 
-mul-out : tie.Need-mul-out
-mul-out c = omega (arith, few (start-of-counted (c .before .before .before .before .before .before .before .before)))
-
-mul-out-2 : tie.Need-mul-out-2
-mul-out-2 c = omega (arith, few (start-of-counted (c .before .before .before .before .before .before .before .before)))
-
-add-out : tie.Need-add-out
-add-out c = omega (arith, few (start-of-counted (c .before .before .before .before .before .before .before .before)))
-
-mul-out-3 : tie.Need-mul-out-3
-mul-out-3 c = omega (arith, few (start-of-counted (c .before .before .before .before .before .before .before .before)))
-
-slice-write-out : tie.Need-slice-write-out
-slice-write-out c =
-    let f = c .before .before .before in
-    let k = f .before .before .before .before in
-    let s = start-of-counted (k .before) in
-    let h = f .deliver-row .ensures (entries s) (row-is k) (s .pre .1 .1 .1) in
-    omega (arith, h .size)
+put-number-at-requires : tie.Need-put-number-at-requires
+put-number-at-requires c κs = search needs
 
 same-length : tie.Need-same-length
 same-length c = search needs
@@ -136,11 +125,13 @@ same-length c = search needs
 returns : tie.Need-returns
 unfolding unaccounted
 returns c =
-    let f = c .before .before .before in
+    let put = c .before .before in
+    let widened = put .before in
+    let f = widened .before .before .before .before in
     let k = f .before .before .before .before in
     let s = start-of-counted (k .before) in
     let h = f .deliver-row .ensures (entries s) (row-is k) (s .pre .1 .1 .1) in
-    generator-more h (few s .0) (s .pre .1 .0) (c .wide .ensures ∙ rw (counted-is (k .before), reading-is s))
+    generator-more h (few s) (s .pre .1 .0) (widened .wide .ensures ∙ rw (counted-is (k .before), reading-is s)) (put .put-number-at .ensures)
 
 pub deliver-one-spec : {M : Type 1} → statement M
 deliver-one-spec =
@@ -155,12 +146,10 @@ deliver-one-spec =
     counted-requires
     share-requires
     deliver-row-requires
+    mul-put-number-at
+    mul-put-number-at-2
     sub-wide
     wide-requires
-    mul-out
-    mul-out-2
-    add-out
-    mul-out-3
-    slice-write-out
+    put-number-at-requires
     same-length
     returns)

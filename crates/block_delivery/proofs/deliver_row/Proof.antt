@@ -2,7 +2,7 @@
 use Prim.Native.Nat.{ℕ, _+_, _-_, _*_, _≤_, _<_}
 use mathlib.Core.Path.{_≡_, sym, _∙_}
 use native.Mathlib.Omega.{arith}
-use lib.ListN.{length, length-set}
+use lib.ListN.{length}
 use Rattle.layout_rules.specs.OnBytes.{planIn}
 use Rattle.block_delivery.specs.LentLaws.{loss-at}
 use Rattle.block_delivery.specs.Rows.{RowOf}
@@ -71,35 +71,27 @@ pair-at-requires c κs =
     let s = start (c .before) in
     (search needs, rw (rate-is c) (s .pre .pairs-ready (consumer (c .before)) (search needs)))
 
-mul-out : tie.Need-mul-out Inv-loop μ-loop
-mul-out c = omega (arith, low (c .before .before))
+put-number-at-requires : tie.Need-put-number-at-requires Inv-loop μ-loop
+put-number-at-requires c κs = let i = c .before .before .before in (omega (arith, low i, i .before .loop .inv .1 .0), omega (arith, low i))
 
-slice-write-out : tie.Need-slice-write-out Inv-loop μ-loop
-slice-write-out c = omega (arith, low (c .before .before))
+mul-put-number-at : tie.Need-mul-put-number-at Inv-loop μ-loop
+mul-put-number-at c = omega (arith, low (c .before .before .before .before .before .before .before))
 
-mul-out-2 : tie.Need-mul-out-2 Inv-loop μ-loop
-mul-out-2 c = omega (arith, low (c .before .before))
+put-number-at-requires-2 : tie.Need-put-number-at-requires-2 Inv-loop μ-loop
+put-number-at-requires-2 c κs =
+    let first = c .before .before .before in
+    let i = first .before .before .before .before in
+    (omega (arith, low i, i .before .loop .inv .1 .0, first .put-number-at .kept .0), omega (arith, low i))
 
-add-out : tie.Need-add-out Inv-loop μ-loop
-add-out c = omega (arith, low (c .before .before))
+mul-put-number-at-2 : tie.Need-mul-put-number-at-2 Inv-loop μ-loop
+mul-put-number-at-2 c = omega (arith, low (c .before .before .before .before .before .before .before .before .before .before .before))
 
-mul-out-3 : tie.Need-mul-out-3 Inv-loop μ-loop
-mul-out-3 c = omega (arith, low (c .before .before))
-
-slice-write-out-2 : tie.Need-slice-write-out-2 Inv-loop μ-loop
-slice-write-out-2 c = simp length-set (omega (arith, low (c .before .before)))
-
-mul-out-4 : tie.Need-mul-out-4 Inv-loop μ-loop
-mul-out-4 c = omega (arith, low (c .before .before))
-
-add-out-2 : tie.Need-add-out-2 Inv-loop μ-loop
-add-out-2 c = omega (arith, low (c .before .before))
-
-mul-out-5 : tie.Need-mul-out-5 Inv-loop μ-loop
-mul-out-5 c = omega (arith, low (c .before .before))
-
-slice-write-out-3 : tie.Need-slice-write-out-3 Inv-loop μ-loop
-slice-write-out-3 c = simp length-set (omega (arith, low (c .before .before)))
+put-number-at-requires-3 : tie.Need-put-number-at-requires-3 Inv-loop μ-loop
+put-number-at-requires-3 c κs =
+    let second = c .before .before .before in
+    let first = second .before .before .before .before in
+    let i = first .before .before .before .before in
+    (omega (arith, low i, i .before .loop .inv .1 .0, first .put-number-at .kept .0, second .put-number-at2 .kept .0), omega (arith, low i))
 
 add-c : tie.Need-add-c Inv-loop μ-loop
 add-c c = search needs
@@ -109,13 +101,19 @@ loop-less c = search needs
 
 loop-again : tie.Need-loop-again Inv-loop μ-loop
 loop-again c =
-    let i = c .before .before in
+    let third = c .before .before in
+    let second = third .before .before .before .before in
+    let first = second .before .before .before .before in
+    let paired = first .before .before in
+    let i = paired .before .before in
     let l = i .before .loop in
     let s = start i in (
       search needs,
       (
-        simp length-set (l .inv .1 .0),
-        λ E o h. pair-more (l .inv .1 .1 E o h) (s .pre .one-of-n) (search needs) (pair-done o (search needs) (rate-is (c .before)) (c .pair-at .ensures)),
+        third .put-number-at3 .kept .0 ∙ second .put-number-at2 .kept .0 ∙ first .put-number-at .kept .0 ∙ l .inv .1 .0,
+        λ E o h.
+            pair-more (l .inv .1 .1 E o h) (s .pre .one-of-n) (search needs) (pair-done o (search needs) (rate-is (paired .before)) (paired .pair-at .ensures))
+            (first .put-number-at .ensures) (second .put-number-at2 .ensures) (third .put-number-at3 .ensures),
       ),
     )
 
@@ -142,16 +140,11 @@ deliver-row-spec =
     add-number-at
     number-at-requires
     pair-at-requires
-    mul-out
-    slice-write-out
-    mul-out-2
-    add-out
-    mul-out-3
-    slice-write-out-2
-    mul-out-4
-    add-out-2
-    mul-out-5
-    slice-write-out-3
+    put-number-at-requires
+    mul-put-number-at
+    put-number-at-requires-2
+    mul-put-number-at-2
+    put-number-at-requires-3
     add-c
     loop-less
     loop-again
