@@ -49,7 +49,7 @@ FAULTS = {
         ("opening_refusal/src/lib.rt", "any_outside(pair_list, 0, count, 0, 1)",
          "any_outside(pair_list, 0, count, 0, 2)"),
     "opening: rate of 5,001 allowed":
-        ("opening_refusal/src/lib.rt", "record::MOST_RATE", "5_001"),
+        ("opening_refusal/src/lib.rt", "bank::Bank::MOST_RATE", "5_001"),
     "opening: losses read from the links":
         ("opening/src/lib.rt", "spread(list, n * m, n, m)", "spread(list, 0, n, m)"),
     "opening: longer pair list allowed":
@@ -111,12 +111,12 @@ FAULTS = {
         ("closing_totals/src/lib.rt",
          "    raising::clear_numbers(s, layout_rules::PENDING, n);\n", ""),
     "closing: lapsed and bank swapped in the output":
-        ("closing_lists/src/lib.rt", "arrays::put8(out, second, &lapsed, n);\n"
-         "    arrays::put8(out, third, &balance, n);",
-         "arrays::put8(out, second, &balance, n);\n    arrays::put8(out, third, &lapsed, n);"),
+        ("closing_lists/src/lib.rt", "arrays::put8(out, lapsed_at, &lapsed, n);\n"
+         "    arrays::put8(out, bank_at, &balance, n);",
+         "arrays::put8(out, lapsed_at, &balance, n);\n    arrays::put8(out, bank_at, &lapsed, n);"),
     "closing: open listed after the drawing":
-        ("closing_lists/src/lib.rt", "arrays::put16(out, fourth, &outstanding, m);",
-         "arrays::put16(out, fourth, &supplied, m);"),
+        ("closing_lists/src/lib.rt", "arrays::put16(out, open_at, &outstanding, m);",
+         "arrays::put16(out, open_at, &supplied, m);"),
     "closing: longer output allowed":
         ("closing_refusal/src/lib.rt", "size == n * m + 3 * n + 2 * m",
          "n * m + 3 * n + 2 * m <= size"),

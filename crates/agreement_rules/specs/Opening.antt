@@ -1,6 +1,6 @@
 -- Document 01, "The agreement": opening, refusals 2 to 6. Assumes nothing.
 use Prim.Native.Nat.{ℕ, _*_, _≤_, _<_}
-use mathlib.Core.Bool.{_&&_, _||_, not}
+use mathlib.Core.Bool.{Bool, _&&_, _||_, not}
 use mathlib.Core.List.{List, [], _∷_}
 use mathlib.Core.Path.{_≡_}
 use lib.Dec.{eqb, leb, ltb}
@@ -26,6 +26,19 @@ pub record Opening : Type 0 where
   -- all links, then all losses, each by generator, then consumer
   pub pairs : List ℕ
 
+-- an opening with these arguments
+abbrev pub asked : (G C rate cycle gone : ℕ) (generators pairs : List ℕ) → Opening
+asked G C rate cycle gone generators pairs = record { G = G; C = C; rate = rate; cycle = cycle; gone = gone; generators = generators; pairs = pairs }
+
+-- the counts are in range, and the lists have the lengths that belong to them
+unfoldable pub sizesFit : (G C : ℕ) (generators pairs : List ℕ) → Bool
+sizesFit G C generators pairs =
+    within 1 mostGenerators G && within 1 mostConsumers C && eqb (length generators) (3 * G) && eqb (length pairs) (2 * (G * C))
+
+-- the bank terms are in range
+unfoldable pub termsFit : (rate cycle gone : ℕ) → Bool
+termsFit rate cycle gone = leb rate mostRate && within 1 mostCycle cycle && ltb gone cycle
+
 module _ (o : Opening) where
   unfoldable pub kindOf : ℕ → ℕ
   kindOf g = cell (o .G) 3 (o .generators) g 0
@@ -47,11 +60,11 @@ module _ (o : Opening) where
       let G = o .G in
       let C = o .C in
       firstOf
-      ((2, not (within 1 mostGenerators G && within 1 mostConsumers C && eqb (length (o .generators)) (3 * G) && eqb (length (o .pairs)) (2 * (G * C)))) ∷
+      ((2, not (sizesFit G C (o .generators) (o .pairs))) ∷
       (3, some G (λ g. ltb lastKind (kindOf g))) ∷
       (4, some G (λ g. ltb mostCapacity (installedOf g) || ltb mostCapacity (contractedOf g))) ∷
       (5, some G (λ g. some C (λ c. ltb 1 (linkOf g c) || ltb mostLoss (rateOfLoss g c)))) ∷
-      (6, not (leb (o .rate) mostRate && within 1 mostCycle (o .cycle) && ltb (o .gone) (o .cycle))) ∷
+      (6, not (termsFit (o .rate) (o .cycle) (o .gone))) ∷
       [])
 
   -- no kW scheduled, every rank 1, all counts and totals 0

@@ -17,11 +17,11 @@ use Rattle.lists.specs.Refusals.{first-head, first-tail, first-none, first-end,
 use Rattle.energy.specs.Limits.{mostGenerators, mostConsumers, lastKind, mostCapacity, mostLoss, mostRate, mostCycle}
 use Rattle.delivery_rules.specs.Plan.{scheduled}
 use Rattle.record.specs.SoundLaws.{Facts, AgreedFacts, PairFacts, no-injection, no-consumption}
-use Rattle.agreement_rules.specs.Opening.{Opening, kindOf, installedOf, contractedOf, linkOf, rateOfLoss, openingRefusal, opened, Permitted}
+use Rattle.agreement_rules.specs.Opening.{Opening, sizesFit, termsFit, kindOf, installedOf, contractedOf, linkOf, rateOfLoss, openingRefusal, opened, Permitted}
 
 module _ (o : Opening) where
   abbrev sizes : Bool
-  sizes = within 1 mostGenerators (o .G) && within 1 mostConsumers (o .C) && eqb (length (o .generators)) (3 * o .G) && eqb (length (o .pairs)) (2 * (o .G * o .C))
+  sizes = sizesFit (o .G) (o .C) (o .generators) (o .pairs)
 
   abbrev badKind : ℕ → Bool
   badKind g = ltb lastKind (kindOf o g)
@@ -33,12 +33,12 @@ module _ (o : Opening) where
   badPair g c = ltb 1 (linkOf o g c) || ltb mostLoss (rateOfLoss o g c)
 
   abbrev terms : Bool
-  terms = leb (o .rate) mostRate && within 1 mostCycle (o .cycle) && ltb (o .gone) (o .cycle)
+  terms = termsFit (o .rate) (o .cycle) (o .gone)
 
   -- a count out of range or a length other than stated is refusal 2
   pub opening-sized :
       (openingRefusal o ≡ 2) ⊎ (((o .G ≤ mostGenerators) × (o .C ≤ mostConsumers)) × ((length (o .generators) ≡ 3 * o .G) × (length (o .pairs) ≡ 2 * (o .G * o .C))))
-  unfolding openingRefusal
+  unfolding openingRefusal sizesFit termsFit
   opening-sized =
       let x = within 1 mostGenerators (o .G) in
       let y = within 1 mostConsumers (o .C) in
@@ -49,7 +49,7 @@ module _ (o : Opening) where
       (first-or 2 sizes _)
 
   pub accepted-permitted : openingRefusal o ≡ 0 → Permitted o
-  unfolding openingRefusal
+  unfolding openingRefusal sizesFit termsFit
   accepted-permitted e =
       let e₃ = first-tail 1 _ _ e in
       let e₄ = first-tail 2 _ _ e₃ in
@@ -78,7 +78,7 @@ module _ (o : Opening) where
       }
 
   pub permitted-accepted : Permitted o → openingRefusal o ≡ 0
-  unfolding openingRefusal
+  unfolding openingRefusal sizesFit termsFit
   permitted-accepted p =
       let s : sizes ≡ true = and-both (and-both (and-both (within-from 1 mostGenerators (o .G) (p .G-low) (p .G-high)) (within-from 1 mostConsumers (o .C) (p .C-low) (p .C-high))) (eq-eqb _ _ (p .generators-size))) (eq-eqb _ _ (p .pairs-size)) in
       let t : terms ≡ true = and-both (and-both (le-leb _ _ (p .rate-high)) (within-from 1 mostCycle (o .cycle) (p .cycle-low) (p .cycle-high))) (lt-ltb _ _ (p .gone-high)) in

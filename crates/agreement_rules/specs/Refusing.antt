@@ -3,28 +3,16 @@ use Prim.Native.Nat.{ℕ, _+_, _*_, _≤_, min}
 use mathlib.Core.Path.{_≡_}
 use mathlib.Core.Bool.{Bool, _&&_, not}
 use mathlib.Core.List.{List, [], _∷_}
-use lib.Dec.{eqb, leb, ltb}
+use lib.Dec.{eqb, ltb}
 use lib.ListN.{length, getD}
 use Rattle.lists.specs.Sums.{sum}
 use Rattle.lists.specs.Tests.{some, within}
 use Rattle.lists.specs.Pairs.{place, cell}
 use Rattle.lists.specs.Refusals.{firstOf}
-use Rattle.energy.specs.Limits.{mostGenerators, mostConsumers, mostRate, mostCycle, mostRank}
+use Rattle.energy.specs.Limits.{mostGenerators, mostConsumers, mostRank}
 use Rattle.record.specs.declared.Agreed.{Agreed}
-use Rattle.agreement_rules.specs.Opening.{Opening}
 
 -- ---- opening
-
-abbrev pub asked : ℕ → ℕ → ℕ → ℕ → ℕ → List ℕ → List ℕ → Opening
-asked G C rate cycle gone generators pairs = record { G = G; C = C; rate = rate; cycle = cycle; gone = gone; generators = generators; pairs = pairs }
-
--- the counts are in range and the lists have the lengths that belong to them
-unfoldable pub sizesFit : ℕ → ℕ → List ℕ → List ℕ → Bool
-sizesFit G C generators pairs =
-    within 1 mostGenerators G && within 1 mostConsumers C && eqb (length generators) (3 * G) && eqb (length pairs) (2 * (G * C))
-
-unfoldable pub termsFit : ℕ → ℕ → ℕ → Bool
-termsFit rate cycle gone = leb rate mostRate && within 1 mostCycle cycle && ltb gone cycle
 
 -- a number outside a range, among count numbers from a place on
 unfoldable pub outside : List ℕ → ℕ → ℕ → ℕ → ℕ → Bool

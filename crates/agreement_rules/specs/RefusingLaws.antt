@@ -18,10 +18,10 @@ use Rattle.energy.specs.Limits.{mostGenerators, mostConsumers, lastKind, mostCa
 use Rattle.record.specs.Stored.{figures, planOf}
 use Rattle.record.specs.declared.Agreed.{Agreed}
 use Rattle.record.specs.declared.Record.{Record}
-use Rattle.agreement_rules.specs.Opening.{kindOf, installedOf, contractedOf, linkOf, rateOfLoss, openingRefusal}
+use Rattle.agreement_rules.specs.Opening.{asked, sizesFit, termsFit, kindOf, installedOf, contractedOf, linkOf, rateOfLoss, openingRefusal}
 use Rattle.agreement_rules.specs.Schedule.{newKw, newRank, scheduleRefusal}
 use Rattle.agreement_rules.specs.ReadingLaws.{cell-take}
-use Rattle.agreement_rules.specs.Refusing.{asked, sizesFit, termsFit, outside, columnOver, Fitting, offLink, overCapacity, refusalOn}
+use Rattle.agreement_rules.specs.Refusing.{outside, columnOver, Fitting, offLink, overCapacity, refusalOn}
 
 -- ---- tests
 

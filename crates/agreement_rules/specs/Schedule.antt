@@ -14,7 +14,7 @@ use Rattle.record.specs.Called.{Rule, Called}
 use Rattle.record.specs.declared.Record.{Record}
 use Rattle.record.specs.declared.Answer.{Answer}
 
--- a schedule: kW by pair, and ranks by pair
+-- A schedule: kW by pair, and ranks by pair. Refusal 8: the kW of a generator are within the lower of its capacities (5.1).
 module _ (kws ranks : List ℕ) (b : Book) where
   unfoldable pub newKw : ℕ → ℕ → ℕ
   newKw = cell (b .plan .G) (b .plan .C) kws

@@ -15,10 +15,9 @@ use Rattle.record.specs.declared.Schedule.{Schedule}
 use Rattle.record.specs.declared.Generators.{Generators}
 use Rattle.record.specs.declared.Consumers.{Consumers}
 use Rattle.record.specs.declared.Record.{Record}
-use Rattle.agreement_rules.specs.Opening.{Opening, kindOf, installedOf, contractedOf, linkOf, rateOfLoss, openingRefusal, opened, Opened}
+use Rattle.agreement_rules.specs.Opening.{Opening, asked, kindOf, installedOf, contractedOf, linkOf, rateOfLoss, openingRefusal, opened, Opened}
 use Rattle.agreement_rules.specs.Schedule.{newKw, newRank, afterSchedule}
 use Rattle.agreement_rules.specs.ReadingLaws.{cell-drop-none, cell-take, cell-ones}
-use Rattle.agreement_rules.specs.Refusing.{asked}
 use Rattle.agreement_rules.specs.Storing.{agreedFrom, linksFrom, firstSchedule, scheduleFrom, withSchedule}
 
 -- ---- opening

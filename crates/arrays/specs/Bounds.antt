@@ -2,10 +2,7 @@
 use Prim.Native.Nat.{ℕ, _≤_}
 use mathlib.Core.List.{List}
 use lib.ListN.{getD}
-
--- no number of a sound record, and no sum of them by row or column, is larger
-abbrev pub mostFigure : ℕ
-mostFigure = 2_000_000_000_000_000
+use Rattle.energy.specs.Limits.{mostFigure}
 
 pub record Moderate (xs : List ℕ) : Type 0 where
   pub at : (i : ℕ) → getD xs i 0 ≤ mostFigure

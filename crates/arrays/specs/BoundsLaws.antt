@@ -6,7 +6,8 @@ use lib.ListN.{getD}
 use Rattle.lists.specs.Tables.{table, table-bound}
 use Rattle.lists.specs.Pairs.{pairs, joined}
 use Rattle.lists.specs.PairsLaws.{pairs-table}
-use Rattle.arrays.specs.Bounds.{mostFigure, Moderate}
+use Rattle.energy.specs.Limits.{mostFigure}
+use Rattle.arrays.specs.Bounds.{Moderate}
 
 pub moderate-table : (n : ℕ) (f : ℕ → ℕ) → ((i : ℕ) → i < n → f i ≤ mostFigure) → Moderate (table n f)
 moderate-table n f h = record { at = table-bound n f mostFigure h }

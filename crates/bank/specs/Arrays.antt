@@ -6,7 +6,7 @@ use Rattle.lists.specs.Choice.{if_then_else_}
 use Rattle.lists.specs.Tables.{table}
 use Rattle.lists.specs.Pairs.{place, pairs}
 use Rattle.energy.specs.Energy.{portionUp}
-use Rattle.energy.specs.Limits.{mostRate}
+use Rattle.energy.specs.Limits.{mostRate, mostFigure}
 use Rattle.order_rules.specs.Settle.{given, kept, unmet}
 use Rattle.delivery_rules.specs.Plan.{Plan}
 use Rattle.closing_rules.specs.Drawing.{stockAt, drawnAt, missingAt}
@@ -26,7 +26,7 @@ creditOf x pending rate =
 
 -- what a sound record gives: no figure is over 2 x 10^15
 pub record Creditable (x : Bank) (pending : List ℕ) (rate : ℕ) : Type 0 where
-  pub moderate : (g : ℕ) → g < 8 → place 8 (x .balance) g + place 8 pending g ≤ 2_000_000_000_000_000
+  pub moderate : (g : ℕ) → g < 8 → place 8 (x .balance) g + place 8 pending g ≤ mostFigure
   pub rate-high : rate ≤ mostRate
 
 -- Step 2 for one consumer, by its suppliers in their order

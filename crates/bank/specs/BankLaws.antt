@@ -9,6 +9,7 @@ use Rattle.lists.specs.Tables.{table, getD-table, is-table, table-same, Filling
 use Rattle.lists.specs.Pairs.{place}
 use Rattle.lists.specs.PairsLaws.{place-in}
 use Rattle.energy.specs.Energy.{portionUp}
+use Rattle.energy.specs.Limits.{mostFigure}
 use Rattle.energy.specs.EnergyLaws.{portion-le}
 use Rattle.order_rules.specs.Order.{only, inOrder}
 use Rattle.order_rules.specs.Members.{Below, below-more, order-below}
@@ -64,7 +65,7 @@ module _ (old pending : List ℕ) (rate : ℕ) where
 
   -- the next generator's figures are moderate, and its charge is within its pending
   module _ (ready : Creditable (record { balance = old }) pending rate) where
-    pub credit-moderate : {g : ℕ} {balance charge : List ℕ} → Crediting g balance charge → g < 8 → getD balance g 0 + getD pending g 0 ≤ 2_000_000_000_000_000
+    pub credit-moderate : {g : ℕ} {balance charge : List ℕ} → Crediting g balance charge → g < 8 → getD balance g 0 + getD pending g 0 ≤ mostFigure
     credit-moderate {g} h l = omega (arith, ready .moderate g l, place-in 8 old g l, place-in 8 pending g l, fill-here (h .balance-is))
 
     pub credit-exact : {due : ℕ} (g : ℕ) → due ≡ portionUp (getD pending g 0) rate → due ≤ getD pending g 0

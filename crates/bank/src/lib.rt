@@ -50,13 +50,13 @@ fn if_linked(link: u64, x: u64) -> u64
 
 impl Bank {
     // The most that a balance, or a month's pending, comes to: what one place meters in the life of a unit.
-    pub const MOST_ENERGY: u64 = 2_000_000_000_000_000;
+    pub const MOST_ENERGY: u64 = record::MOST_UNIT_BLOCKS * energy::MOST_READING;
 
     // The highest charge rate, in hundredths of a percent.
-    pub const MOST_RATE: u64 = 5_000;
+    pub const MOST_RATE: u64 = record::MOST_RATE;
 
     // The longest cycle, in months.
-    pub const MOST_CYCLE: u64 = 12;
+    pub const MOST_CYCLE: u64 = record::MOST_CYCLE;
 
     // Step 1: what the bank held before is not charged again.
     pub fn credit(self, pending: [u64; 8], rate: u64) -> Credit
@@ -108,10 +108,10 @@ impl Bank {
         requires { ⌜ (n ≤ 8) × ((g : ℕ) → place 8 ranks g ≤ mostRank) ⌝ }
         ensures { λ r. ⌜ r ≡ drawOf self (only (λ g. eqb (place 8 links g) 1) (inOrder (place 8 ranks) n)) want ⌝ }
     {
-        let turns = order::in_order(ranks, n);
+        let keys = order::in_order(ranks, n);
         let mut stock = self.linked(links);
         let mut drawn = [0u64; 8];
-        let left = settling::settle(&turns, n, &mut stock, &mut drawn, want);
+        let left = settling::settle(&keys, n, &mut stock, &mut drawn, want);
         let bank = self.less(drawn);
         Draw { bank, drawn, left }
     }

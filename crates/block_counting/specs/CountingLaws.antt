@@ -3,7 +3,7 @@ use Prim.Native.Nat.{ℕ, min}
 use mathlib.Core.Path.{_≡_}
 use borrow.Author.Tests.{eq-eqb, ne-eqb}
 use Rattle.energy.specs.Energy.{quarterHour}
-use Rattle.block_counting.specs.Counting.{countedOf}
+use Rattle.delivery_rules.specs.Delivery.{countedOf}
 
 module _ (kind scheduled e : ℕ) where
   pub counted-idle : scheduled ≡ 0 → 0 ≡ countedOf kind scheduled e

@@ -5,7 +5,7 @@ ghost use Prim.Native.Nat.{_≤_};
 ghost use Rattle.lists.specs.Sums.{sum};
 ghost use Rattle.lists.specs.Pairs.{place};
 ghost use Rattle.energy.specs.Limits.{mostCapacity};
-ghost use Rattle.block_counting.specs.Counting.{countedOf};
+ghost use Rattle.delivery_rules.specs.Delivery.{countedOf};
 use energy::Kw;
 
 // All the kW of a generator.

@@ -19,10 +19,9 @@ use Rattle.energy.specs.Limits.{mostCapacity, mostReading}
 use Rattle.sharing.specs.Share.{part, shared}
 use Rattle.sharing.specs.ShareLaws.{part-le-whole, part-wide, shared-within}
 use Rattle.delivery_rules.specs.Plan.{Plan, deemed, scheduled}
-use Rattle.delivery_rules.specs.Delivery.{counted, partOf, lossOf, delivered, atExit}
+use Rattle.delivery_rules.specs.Delivery.{countedOf, counted, partOf, lossOf, delivered, atExit}
 use Rattle.delivery_rules.specs.DeliveryLaws.{counted-le, delivered-le}
 use Rattle.delivery_rules.specs.Deliverable.{Deliverable}
-use Rattle.block_counting.specs.Counting.{countedOf}
 use Rattle.block_pair.specs.OnePair.{gapOf, PairReady, PairDone}
 use Rattle.block_pair.specs.declared.Pair.{Pair}
 use Rattle.block_delivery.specs.Rows.{RowOf}
@@ -105,7 +104,7 @@ module _ (p : Plan) (E : ℕ → ℕ) (d : Deliverable p E) (g : ℕ) where
   -- rules 1 and 2
 
   pub counted-here : {kind A e K : ℕ} → kind ≡ p .kind g → A ≡ scheduled p g → e ≡ E g → K ≡ countedOf kind A e → K ≡ counted p g (E g)
-  unfolding countedOf counted deemed
+  unfolding counted
   counted-here k a e h = h ∙ rw (k, a, e)
 
   counted-high : counted p g (E g) ≤ mostReading

@@ -1,16 +1,15 @@
 -- Rules 3 and 4 for one pair, by its generator's kind, its scheduled kW, its part and its loss rate. Assumes nothing.
 use Prim.Native.Nat.{ℕ, _-_, _≤_}
-use mathlib.Core.Bool.{not}
 use mathlib.Core.Path.{_≡_}
-use lib.Dec.{eqb}
 use Rattle.lists.specs.Choice.{if_then_else_}
 use Rattle.energy.specs.Energy.{quarterHour, lossOn}
 use Rattle.energy.specs.Limits.{mostCapacity, mostLoss, mostReading}
+use Rattle.delivery_rules.specs.Plan.{deemedKind}
 use Rattle.block_pair.specs.declared.Pair.{Pair}
 
 -- Rule 4 less what is delivered, by the generator's kind and the pair's scheduled energy and loss
 unfoldable pub gapOf : ℕ → ℕ → ℕ → ℕ → ℕ
-gapOf kind scheduled rate delivered = if not (eqb kind 0) then 0 else scheduled - lossOn scheduled rate - delivered
+gapOf kind scheduled rate delivered = if deemedKind kind then 0 else scheduled - lossOn scheduled rate - delivered
 
 -- what the code asks; of a scheduled pair no more is delivered than is scheduled at exit
 pub record PairReady (kind kw part rate : ℕ) : Type 0 where

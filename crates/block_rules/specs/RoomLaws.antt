@@ -11,7 +11,8 @@ use Rattle.energy.specs.Limits.{mostReading}
 use Rattle.energy.specs.Energy.{quarterHour, lossOn}
 use Rattle.sharing.specs.Share.{part}
 use Rattle.sharing.specs.ShareLaws.{part-none, part-le}
-use Rattle.arrays.specs.Bounds.{mostFigure, Moderate}
+use Rattle.energy.specs.Limits.{mostFigure}
+use Rattle.arrays.specs.Bounds.{Moderate}
 use Rattle.arrays.specs.BoundsLaws.{moderate-table, moderate-rows, no-more, and-then, moderate-joined}
 use Rattle.delivery_rules.specs.Plan.{deemed}
 use Rattle.delivery_rules.specs.Delivery.{counted, unaccounted, partOf, lossOf, delivered, atExit}

@@ -15,16 +15,16 @@ fn settle_one(s: &[u8], n: usize, m: usize, c: usize, read: u64, out: &mut [u64]
     ensures { λ _. ⌜ ((E R : ℕ → ℕ) → read ≡ R c → SettledTo (planIn (now (s .entry))) E R c (now (out .entry)) → SettledTo (planIn (now (s .entry))) E R (c + 1) (now (out .exit))) ⌝ }
 {
     let ranks = in_place::column_at(s, layout_rules::RANK + c);
-    let turns = order::in_order(ranks, n);
+    let keys = order::in_order(ranks, n);
     let size = n * m;
     let mut has = [0u64; 8];
     columns::get_column_at(out, 2 * size, n, m, c, &mut has);
     let mut taken = [0u64; 8];
-    let left = settling::settle(&turns, n, &mut has, &mut taken, read);
+    let left = settling::settle(&keys, n, &mut has, &mut taken, read);
     let mut gap = [0u64; 8];
     columns::get_column_at(out, 3 * size, n, m, c, &mut gap);
     let mut short = [0u64; 8];
-    let rest = settling::settle(&turns, n, &mut gap, &mut short, left);
+    let rest = settling::settle(&keys, n, &mut gap, &mut short, left);
     block_columns::put_settled(out, n, m, c, &taken, &has, &short, rest);
 }
 

@@ -3,7 +3,8 @@
 ghost use mathlib.Core.Path.{_≡_};
 ghost use Prim.Native.Nat.{_+_, _*_, _≤_, _<_};
 ghost use lib.ListN.{length};
-ghost use Rattle.arrays.specs.Bounds.{mostFigure, Moderate};
+ghost use Rattle.energy.specs.Limits.{mostFigure};
+ghost use Rattle.arrays.specs.Bounds.{Moderate};
 ghost use Rattle.codec.specs.Bytes.{encode, decode};
 ghost use Rattle.record.specs.Stored.{stored};
 ghost use Rattle.record.specs.Words.{words};

@@ -57,16 +57,16 @@ fn write_lists(
     ensures { λ r. ⌜ now (out .exit) ≡ sixLists (now (drawn .entry)) charge lapsed balance outstanding supplied n m ⌝ }
 {
     let size = n * m;
-    let second = size + n;
-    let third = second + n;
-    let fourth = third + n;
-    let last = fourth + m;
+    let lapsed_at = size + n;
+    let bank_at = lapsed_at + n;
+    let open_at = bank_at + n;
+    let supplied_at = open_at + m;
     arrays::put_pairs(out, 0, drawn, n, m);
     arrays::put8(out, size, &charge, n);
-    arrays::put8(out, second, &lapsed, n);
-    arrays::put8(out, third, &balance, n);
-    arrays::put16(out, fourth, &outstanding, m);
-    arrays::put16(out, last, &supplied, m);
+    arrays::put8(out, lapsed_at, &lapsed, n);
+    arrays::put8(out, bank_at, &balance, n);
+    arrays::put16(out, open_at, &outstanding, m);
+    arrays::put16(out, supplied_at, &supplied, m);
 }
 
 // Steps 1 to 4 on what the record holds for them, and their lists into the slice.

@@ -48,6 +48,7 @@ module _ (b : Book) where
   unfoldable pub goneAfter : ℕ
   goneAfter = if lapses then 0 else b .gone + 1
 
+  -- document 01's bank before the lapse ("The book"): what step 2 leaves, in the output lapsed plus bank
   unfoldable pub bankBeforeLapse : ℕ → ℕ
   bankBeforeLapse g = banks (b .plan .C) g
 

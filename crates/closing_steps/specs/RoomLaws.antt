@@ -2,7 +2,8 @@
 use Prim.Native.Nat.{ℕ, _≤_}
 use native.Mathlib.Omega.{arith}
 use Rattle.lists.specs.Sums.{never-rises}
-use Rattle.arrays.specs.Bounds.{mostFigure, Moderate}
+use Rattle.energy.specs.Limits.{mostFigure}
+use Rattle.arrays.specs.Bounds.{Moderate}
 use Rattle.arrays.specs.BoundsLaws.{moderate-table, moderate-rows, no-more, and-then, moderate-joined}
 use Rattle.record.specs.Book.{Book}
 use Rattle.record.specs.SoundLaws.{Facts, injected-most, metered-most}

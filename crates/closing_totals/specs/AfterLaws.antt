@@ -10,7 +10,7 @@ use Rattle.lists.specs.Sums.{sum, sum-cong}
 use Rattle.lists.specs.Tables.{table, is-table}
 use Rattle.lists.specs.Pairs.{place}
 use Rattle.lists.specs.PairsLaws.{place-in}
-use Rattle.arrays.specs.Bounds.{mostFigure}
+use Rattle.energy.specs.Limits.{mostFigure}
 use Rattle.codec.specs.Bytes.{encode, decode}
 use Rattle.codec.specs.BytesLaws.{Below, length-decode}
 use Rattle.record.specs.Book.{Book}

@@ -2,7 +2,7 @@
 // Called by this repository's crates only: what a function requires, its callers meet.
 ghost use mathlib.Core.Path.{_≡_};
 ghost use lib.ListN.{length};
-ghost use Rattle.arrays.specs.Bounds.{mostFigure};
+ghost use Rattle.energy.specs.Limits.{mostFigure};
 ghost use Rattle.codec.specs.Bytes.{encode, decode};
 ghost use Rattle.record.specs.Stored.{stored};
 ghost use Rattle.record.specs.Words.{words};

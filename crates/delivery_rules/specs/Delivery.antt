@@ -4,19 +4,23 @@ use lib.Dec.{eqb}
 use Rattle.lists.specs.Choice.{if_then_else_}
 use Rattle.energy.specs.Energy.{quarterHour, lossOn}
 use Rattle.sharing.specs.Share.{part}
-use Rattle.delivery_rules.specs.Plan.{Plan, deemed, scheduled}
+use Rattle.delivery_rules.specs.Plan.{Plan, deemedKind, deemed, scheduled}
+
+-- Rule 1: what counts of the reading e of a generator of this kind with A kW scheduled.
+unfoldable pub countedOf : (kind A e : ℕ) → ℕ
+countedOf kind A e = if eqb A 0 then 0 else (if deemedKind kind then e else min e (quarterHour A))
 
 -- for generator g and its entry reading e
 module _ (p : Plan) (g e : ℕ) where
-  -- Rule 1: document 01's K, what counts of the reading.
+  -- Rule 1: document 01's K.
   unfoldable pub counted : ℕ
-  counted = if eqb (scheduled p g) 0 then 0 else (if deemed p g then e else min e (quarterHour (scheduled p g)))
+  counted = countedOf (p .kind g) (scheduled p g) e
 
   -- What does not count (10.4).
   unfoldable pub unaccounted : ℕ
   unaccounted = e - counted
 
-  -- Rule 2: the part of consumer c.
+  -- Rule 2: document 01's p, the part of consumer c.
   unfoldable pub partOf : ℕ → ℕ
   partOf c = part (p .C) (p .kw g) counted c
 

@@ -15,7 +15,7 @@ use Rattle.sharing.specs.Share.{part}
 use Rattle.sharing.specs.ShareLaws.{parts-sum, part-none, part-le}
 use Rattle.order_rules.specs.Members.{Below, order-below, only-below}
 use Rattle.delivery_rules.specs.Plan.{Plan, deemed, scheduled, order, suppliers}
-use Rattle.delivery_rules.specs.Delivery.{counted, partOf, lossOf, delivered, atExit}
+use Rattle.delivery_rules.specs.Delivery.{countedOf, counted, partOf, lossOf, delivered, atExit}
 
 -- ---- the order
 
@@ -46,7 +46,7 @@ part-of-no-kw p g e c z =
 module _ (p : Plan) (g e : ℕ) where
   -- E - K is exact
   pub counted-le : counted p g e ≤ e
-  unfolding counted
+  unfolding counted countedOf deemed
   counted-le = go (eqb (scheduled p g) 0) (deemed p g)
     where
       go : (s d : Bool) → (if s then 0 else (if d then e else min e (quarterHour (scheduled p g)))) ≤ e
@@ -55,7 +55,7 @@ module _ (p : Plan) (g e : ℕ) where
       go false false = omega arith
 
   counted-none : scheduled p g ≡ 0 → counted p g e ≡ 0
-  unfolding counted
+  unfolding counted countedOf
   counted-none z = rw (eq-eqb (scheduled p g) 0 z)
 
   -- the parts of a generator add up to what counts
@@ -74,7 +74,7 @@ module _ (p : Plan) (g e : ℕ) where
     lossOf-le = loss-le (partOf p g e c) (p .loss g c) rate
 
     counted-scheduled : deemed p g ≡ false → counted p g e ≤ quarterHour (scheduled p g)
-    unfolding counted
+    unfolding counted countedOf deemed
     counted-scheduled d = rw d (go (eqb (scheduled p g) 0))
       where
         go : (t : Bool) → (if t then 0 else min e (quarterHour (scheduled p g))) ≤ quarterHour (scheduled p g)

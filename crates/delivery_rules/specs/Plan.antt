@@ -20,10 +20,13 @@ pub record Plan : Type 0 where
   pub kw : ℕ → ℕ → ℕ
   pub rank : ℕ → ℕ → ℕ
 
+-- kinds 1 to 3, wind, mini-hydel and solar, are document 01's deemed kinds: scheduled at what they inject (10.5)
+abbrev pub deemedKind : ℕ → Bool
+deemedKind kind = not (eqb kind 0)
+
 module _ (p : Plan) where
-  -- kinds 1 to 3, wind, mini-hydel and solar, are document 01's deemed kinds: scheduled at what they inject (10.5)
   unfoldable pub deemed : ℕ → Bool
-  deemed g = not (eqb (p .kind g) 0)
+  deemed g = deemedKind (p .kind g)
 
   -- document 01's A: the kW scheduled of generator g for all consumers
   unfoldable pub scheduled : ℕ → ℕ

@@ -1,14 +1,15 @@
 -- Laws of prints, and the invariant of the loop that lays a word. Assumes nothing.
 use Prim.Native.Nat.{ℕ, _+_, _≤_, _<_}
-use mathlib.Core.Path.{_≡_, refl, sym}
+use mathlib.Core.Path.{_≡_, refl, sym, _∙_}
 use mathlib.Core.List.{List, [], _∷_, _++_}
 use native.Mathlib.Nat.{add-zero}
 use native.Mathlib.Numerals.{add-one}
 use native.Mathlib.Omega.{arith}
-use lib.ListN.{length, take, getD, set, length-append, length-take, take-append-drop}
+use lib.ListN.{length, take, getD, set, replicate, length-replicate, length-append, length-take, take-append-drop}
 use lib.Seq.{take-suc, take-all}
+use Rattle.lists.specs.Tables.{zeros-at}
 use Rattle.table_text.specs.Laying.{laid, Put, Room}
-use Rattle.table_text.specs.LayingLaws.{put-more, put-then, put-start, put-length}
+use Rattle.table_text.specs.LayingLaws.{put-more, put-then, put-start, put-behind, put-length}
 use Rattle.display.specs.Printing.{Shows}
 
 -- j bytes of the word are laid over the buffer as it was, first, from place i on
@@ -42,10 +43,15 @@ wording-step {word} {first} {buf} {i} {j} h l =
 pub wording-done : {word first buf : List ℕ} {i j : ℕ} → Wording word first buf i j → length word ≤ j → Put first i word (i + j) buf
 wording-done {word} {first} {buf} {i} {j} h l = rw (take-all j word l) at (h .is)
 
--- a word, and a line laid after it
-pub shows-two : {l m n word line : List ℕ} {start size : ℕ} → Put l 0 word start m → Put m start line size n → length l ≡ 320 → length word + length line ≤ 320
+-- a word, and a line laid after it, in a buffer of zeros
+pub shows-two : {m n word line : List ℕ} {start size : ℕ} → Put (replicate 320 0) 0 word start m → Put m start line size n → length word + length line ≤ 320
     → Shows (record { bytes = n; size = size }) (word ++ line)
-shows-two {l} {m} {n} {word} {line} {start} {size} p q e h =
+shows-two {m} {n} {word} {line} {start} {size} p q h =
+    let e : length (replicate {A = ℕ} 320 0) ≡ 320 = length-replicate {A = ℕ} 320 0 in
     let a = length-append word line in
-    let t = put-then p q (omega arith) in
-    record { fits = omega (arith, t .ends, put-length t (omega arith)); is = put-start t (omega arith) }
+    let t = put-then p q (omega (arith, e)) in
+    record {
+      fits = omega (arith, t .ends, put-length t (omega (arith, e)));
+      is = put-start t (omega (arith, e));
+      rest = λ k b. put-behind t k b ∙ zeros-at 320 k;
+    }

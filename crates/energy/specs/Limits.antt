@@ -1,4 +1,5 @@
--- Every limit that document 01 names, each once. Assumes nothing.
+-- The limits of an agreement, a schedule, a reading and a unit's life, each once; those of the readings table stand with its rules. Assumes
+-- nothing.
 use Prim.Native.Nat.{ℕ}
 
 abbrev pub mostGenerators : ℕ
@@ -39,3 +40,7 @@ mostMonthBlocks = 3_360
 
 abbrev pub mostUnitBlocks : ℕ
 mostUnitBlocks = 10_000_000
+
+-- Wh that one place meters in the life of a unit: mostReading in each of mostUnitBlocks blocks. No figure of a sound record is more.
+abbrev pub mostFigure : ℕ
+mostFigure = 2_000_000_000_000_000

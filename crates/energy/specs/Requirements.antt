@@ -1,8 +1,8 @@
 -- What callers of this crate's functions have to show. Assumes nothing.
-use Prim.Native.Nat.{ℕ, _*_, _≤_}
-use Rattle.energy.specs.Limits.{mostReading, mostUnitBlocks, mostRate}
+use Prim.Native.Nat.{ℕ, _≤_}
+use Rattle.energy.specs.Limits.{mostRate, mostFigure}
 
--- An energy and a rate whose product fits 64 bits: at most what one place meters in the life of a unit, 2,000,000,000,000,000 Wh.
+-- An energy and a rate whose product fits 64 bits.
 pub record Portionable (x r : ℕ) : Type 0 where
-  pub energy : x ≤ mostUnitBlocks * mostReading
+  pub energy : x ≤ mostFigure
   pub rate : r ≤ mostRate

@@ -10,7 +10,8 @@ use Rattle.record.specs.Stored.{figures, stored}
 use Rattle.record.specs.Shape.{Shape, record-kept}
 use Rattle.record.specs.SoundLaws.{Facts}
 use Rattle.record.specs.Words.{runLengths, total, words, cut, fromRuns, recordOf}
-use Rattle.layout_rules.specs.LayoutLaws.{most, words-of-record, words-low}
+use Rattle.energy.specs.Limits.{mostFigure}
+use Rattle.layout_rules.specs.LayoutLaws.{words-of-record, words-low}
 
 -- each run has its length
 run-length : (ns ws : List ℕ) → length ws ≡ total ns → (j : ℕ) → j < length ns → length (getD (cut ns ws) j []) ≡ getD ns j 0
@@ -55,7 +56,7 @@ module _ (ws : List ℕ) (e : length ws ≡ 719) where
   pub read-kept : stored (figures (recordOf ws)) ≡ recordOf ws
   read-kept = record-kept (recordOf ws) record-shape
 
-  pub numbers-low : Facts (figures (recordOf ws)) → (i : ℕ) → getD ws i 0 ≤ most
+  pub numbers-low : Facts (figures (recordOf ws)) → (i : ℕ) → getD ws i 0 ≤ mostFigure
   numbers-low f i =
       let same : words (stored (figures (recordOf ws))) ≡ ws = ap words read-kept ∙ words-of-record ws e in
       rw same at (words-low (figures (recordOf ws)) f i)

@@ -13,6 +13,7 @@ use Rattle.codec.specs.BytesLaws.{Below, below-append, length-encode, length-de
 use Rattle.record.specs.Book.{Book, splitOfInjected, splitOfMetered}
 use Rattle.record.specs.Shape.{Shape, record-kept}
 use Rattle.record.specs.Stored.{stored, storedGenerators, storedConsumers, figures}
+use Rattle.energy.specs.Limits.{mostFigure}
 use Rattle.record.specs.SoundLaws.{Facts, injected-most, metered-most, kw-most}
 use Rattle.record.specs.Words.{agreedOf, runs, runLengths, total, wordCount, words, cut, fromRuns, recordOf}
 use Rattle.record.specs.declared.Record.{Record}
@@ -83,34 +84,30 @@ unfolding joined
 below-joined p none = λ i. p
 below-joined {b} p (also {xs} {xss} h l) = below-append b xs (joined xss) h (below-joined p l)
 
--- no number of a sound record is more
-abbrev pub most : ℕ
-most = 2_000_000_000_000_000
+below-table : (n : ℕ) (f : ℕ → ℕ) → ((i : ℕ) → f i ≤ mostFigure) → Below (mostFigure + 1) (table n f)
+below-table n f h i = omega (arith, table-bound n f mostFigure (λ k l. h k) i)
 
-below-table : (n : ℕ) (f : ℕ → ℕ) → ((i : ℕ) → f i ≤ most) → Below (most + 1) (table n f)
-below-table n f h i = omega (arith, table-bound n f most (λ k l. h k) i)
-
-below-pairs : (n w : ℕ) (f : ℕ → ℕ → ℕ) → ((g c : ℕ) → f g c ≤ most) → Below (most + 1) (pairs n w f)
+below-pairs : (n w : ℕ) (f : ℕ → ℕ → ℕ) → ((g c : ℕ) → f g c ≤ mostFigure) → Below (mostFigure + 1) (pairs n w f)
 below-pairs n w f h = rw pairs-table (below-table (n * w) (λ k. f (k / w) (k % w)) (λ k. h (k / w) (k % w)))
 
-place-low : (f : ℕ → ℕ) → ((g : ℕ) → f g ≤ most) → (g : ℕ) → place 8 (table 8 f) g ≤ most
-place-low f h = place-all (λ x. x ≤ most) 8 (table 8 f) (omega arith) (λ i l. table-bound 8 f most (λ k m. h k) i)
+place-low : (f : ℕ → ℕ) → ((g : ℕ) → f g ≤ mostFigure) → (g : ℕ) → place 8 (table 8 f) g ≤ mostFigure
+place-low f h = place-all (λ x. x ≤ mostFigure) 8 (table 8 f) (omega arith) (λ i l. table-bound 8 f mostFigure (λ k m. h k) i)
 
 module _ (b : Book) (f : Facts b) where
-  agreed-low : (g k : ℕ) → agreedOf (stored b .agreed) g k ≤ most
+  agreed-low : (g k : ℕ) → agreedOf (stored b .agreed) g k ≤ mostFigure
   unfolding agreedOf stored
   agreed-low g zero = place-low (b .plan .kind) (λ g. omega (arith, f .agreed g .kind)) g
   agreed-low g (suc zero) = place-low (b .plan .installed) (λ g. omega (arith, f .agreed g .installed)) g
   agreed-low g (suc (suc k)) = place-low (b .plan .contracted) (λ g. omega (arith, f .agreed g .contracted)) g
 
-  -- each term of an equation is at most the energy that is split
-  generator-low : (v : GeneratorTerms → ℕ) → ((x : GeneratorTerms) → v x ≤ splitOfInjected x) → Below (most + 1) (table 8 (λ g. v (b .gen g)))
+  -- each term of an equation is at mostFigure the energy that is split
+  generator-low : (v : GeneratorTerms → ℕ) → ((x : GeneratorTerms) → v x ≤ splitOfInjected x) → Below (mostFigure + 1) (table 8 (λ g. v (b .gen g)))
   generator-low v h = below-table 8 (λ g. v (b .gen g)) (λ g. omega (arith, h (b .gen g), f .gen g .equation, injected-most b f g))
 
-  consumer-low : (v : ConsumerTerms → ℕ) → ((x : ConsumerTerms) → v x ≤ splitOfMetered x) → Below (most + 1) (table 16 (λ c. v (b .con c)))
+  consumer-low : (v : ConsumerTerms → ℕ) → ((x : ConsumerTerms) → v x ≤ splitOfMetered x) → Below (mostFigure + 1) (table 16 (λ c. v (b .con c)))
   consumer-low v h = below-table 16 (λ c. v (b .con c)) (λ c. omega (arith, h (b .con c), f .con c .equation, metered-most b f c))
 
-  head-low : Below (most + 1) (b .plan .G ∷ b .plan .C ∷ b .rate ∷ b .cycle ∷ b .gone ∷ b .blocks ∷ b .month ∷ [])
+  head-low : Below (mostFigure + 1) (b .plan .G ∷ b .plan .C ∷ b .rate ∷ b .cycle ∷ b .gone ∷ b .blocks ∷ b .month ∷ [])
   head-low zero = omega (arith, f .counts .G-high)
   head-low (suc zero) = omega (arith, f .counts .C-high)
   head-low (suc (suc zero)) = omega (arith, f .counts .rate-high)
@@ -120,7 +117,7 @@ module _ (b : Book) (f : Facts b) where
   head-low (suc (suc (suc (suc (suc (suc zero)))))) = omega (arith, f .counts .month-high)
   head-low (suc (suc (suc (suc (suc (suc (suc i))))))) = omega arith
 
-  runs-low : AllBelow (most + 1) (runs (stored b))
+  runs-low : AllBelow (mostFigure + 1) (runs (stored b))
   unfolding runs stored storedGenerators storedConsumers
   runs-low =
       also head-low
@@ -146,7 +143,7 @@ module _ (b : Book) (f : Facts b) where
       (also (consumer-low (λ x. x .supplied) (λ x. omega arith))
       (also (consumer-low (λ x. x .outstanding) (λ x. omega arith)) none)))))))))))))))))))))
 
-  pub words-low : (i : ℕ) → getD (words (stored b)) i 0 ≤ most
+  pub words-low : (i : ℕ) → getD (words (stored b)) i 0 ≤ mostFigure
   unfolding words
   words-low i = omega (arith, below-joined (omega arith) runs-low i)
 

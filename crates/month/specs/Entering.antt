@@ -19,7 +19,7 @@ use Rattle.layout_rules.specs.OnBytes.{bookIn, CalledOn}
 use Rattle.agreement_rules.specs.Opening.{openingRefusal, opened, Opened}
 use Rattle.agreement_rules.specs.OpeningLaws.{accepted-permitted, opened-facts}
 use Rattle.agreement_rules.specs.Schedule.{scheduleRule}
-use Rattle.unit.specs.Calls.{block, closing, ruleOf, bookAfter, Entry, bookAnswers}
+use Rattle.unit.specs.Calls.{block, closing, ruleOf, bookAfter, BookAnswer, bookAnswers}
 use Rattle.unit.specs.AgreementA.{agreementA, scheduleA}
 use Rattle.unit.specs.BenchCases.{bench-cases}
 use Rattle.report_rules.specs.Display.{blocks, calls, firstRefused}
@@ -33,7 +33,7 @@ use Rattle.month.specs.CarriedLaws.{carried-on, carried-none, carried-th
 opening-accepted : openingRefusal agreementA ≡ 0
 opening-accepted = omega (arith, bench-cases .all-opened)
 
-first : List Entry → ℕ
+first : List BookAnswer → ℕ
 first [] = 0
 first (e ∷ es) = e .number
 

@@ -8,9 +8,8 @@ ghost use Rattle.energy.specs.Limits.{mostGenerators, mostConsumers};
 ghost use Rattle.record.specs.Book.{noInjection, noConsumption};
 ghost use Rattle.record.specs.Stored.{storedGenerators, storedConsumers, stored, zeros};
 ghost use Rattle.record.specs.Words.{words};
-ghost use Rattle.agreement_rules.specs.Opening.{opened, Opened, Permitted};
+ghost use Rattle.agreement_rules.specs.Opening.{asked, opened, Opened, Permitted};
 ghost use Rattle.agreement_rules.specs.Reading.{Threes};
-ghost use Rattle.agreement_rules.specs.Refusing.{asked};
 ghost use Rattle.agreement_rules.specs.Storing.{agreedFrom, linksFrom, firstSchedule};
 ghost use Rattle.opening.specs.OpenedOn.{OpenedOn};
 

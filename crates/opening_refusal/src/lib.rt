@@ -1,7 +1,6 @@
 // The refusals of the call `opening`. Tests are joined by & and |, which do not branch.
 ghost use mathlib.Core.Path.{_≡_};
-ghost use Rattle.agreement_rules.specs.Opening.{openingRefusal};
-ghost use Rattle.agreement_rules.specs.Refusing.{asked, sizesFit, termsFit};
+ghost use Rattle.agreement_rules.specs.Opening.{asked, sizesFit, termsFit, openingRefusal};
 
 fn sizes_fit(n: usize, m: usize, generator_list: &[u32], pair_list: &[u32]) -> bool
     ensures { λ r. ⌜ r ≡ sizesFit n m (now («generator_list» .entry)) (now («pair_list» .entry)) ⌝ }
@@ -16,8 +15,8 @@ fn sizes_fit(n: usize, m: usize, generator_list: &[u32], pair_list: &[u32]) -> b
 fn terms_fit(rate: u32, cycle: u32, gone: u32) -> bool
     ensures { λ r. ⌜ r ≡ termsFit rate cycle gone ⌝ }
 {
-    (lists::wide(rate) <= record::MOST_RATE)
-        & ((1 <= cycle) & (lists::wide(cycle) <= record::MOST_CYCLE))
+    (lists::wide(rate) <= bank::Bank::MOST_RATE)
+        & ((1 <= cycle) & (lists::wide(cycle) <= bank::Bank::MOST_CYCLE))
         & (gone < cycle)
 }
 

@@ -4,7 +4,8 @@ use mathlib.Core.Path.{_≡_}
 use mathlib.Core.List.{List}
 use lib.ListN.{length, getD}
 use Rattle.lists.specs.Sums.{sum}
-use Rattle.arrays.specs.Bounds.{mostFigure, Moderate}
+use Rattle.energy.specs.Limits.{mostFigure}
+use Rattle.arrays.specs.Bounds.{Moderate}
 use Rattle.codec.specs.Bytes.{decode}
 use Rattle.layout_rules.specs.Raised.{raised}
 use Rattle.layout_rules.specs.Replaced.{replaced}

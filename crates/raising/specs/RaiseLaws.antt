@@ -6,7 +6,8 @@ use native.Mathlib.Omega.{arith}
 use native.Mathlib.Nat.{mul-le-mul-right, suc-mul}
 use lib.ListN.{length, getD, set}
 use Rattle.lists.specs.Sums.{sum-cap}
-use Rattle.arrays.specs.Bounds.{mostFigure, Moderate}
+use Rattle.energy.specs.Limits.{mostFigure}
+use Rattle.arrays.specs.Bounds.{Moderate}
 use Rattle.codec.specs.Bytes.{decode}
 use Rattle.layout_rules.specs.Raised.{from, raised-none, raised-more, raised-other}
 use Rattle.layout_rules.specs.Replaced.{replaced-none, replaced-more}

@@ -19,7 +19,7 @@ unfoldable pub countsSound : ℕ → ℕ → ℕ → ℕ → ℕ → ℕ → ℕ
 countsSound G C rate cycle gone blocks month =
     within 1 mostGenerators G && within 1 mostConsumers C && leb rate mostRate && within 1 mostCycle cycle && ltb gone cycle && leb blocks mostUnitBlocks && leb month mostMonthBlocks && leb month blocks
 
--- one generator of the agreement, with the sum of its scheduled kW
+-- one generator of the agreement, with the sum of its scheduled kW, which is within the lower of its capacities (5.1)
 unfoldable pub agreedSound : Bool → ℕ → ℕ → ℕ → ℕ → Bool
 agreedSound inside kind installed contracted total =
     leb kind (limit inside lastKind) && leb installed (limit inside mostCapacity) && leb contracted (limit inside mostCapacity) && leb total (min installed contracted)

@@ -10,7 +10,7 @@ use lib.ListN.{getD}
 use borrow.Author.Tests.{leb-true, eqb-true, eqb-false, ltb-true, ltb-false, le-leb, lt-ltb, le-ltb, eq-eqb}
 use Rattle.lists.specs.Sums.{sum-zero, sum-part}
 use Rattle.lists.specs.Tests.{all, within, all-at, all-from, and-left, and-right, and-both, chain-at, within-low, within-high, within-from}
-use Rattle.energy.specs.Limits.{mostGenerators, mostConsumers, lastKind, mostCapacity, mostLoss, mostRate, mostCycle, mostRank, mostReading, mostMonthBlocks, mostUnitBlocks}
+use Rattle.energy.specs.Limits.{mostGenerators, mostConsumers, lastKind, mostCapacity, mostLoss, mostRate, mostCycle, mostRank, mostReading, mostMonthBlocks, mostUnitBlocks, mostFigure}
 use Rattle.delivery_rules.specs.Plan.{scheduled}
 use Rattle.record.specs.Book.{Book, splitOfInjected, splitOfMetered, noInjection, noConsumption}
 use Rattle.record.specs.Sound.{limit, countsSound, agreedSound, pairSound, generatorSound, consumerSound, sound}
@@ -462,10 +462,10 @@ module _ (b : Book) (f : Facts b) where
       wider g c (inr h) = inr (omega (arith, f .counts .C-high))
 
   -- every figure of a generator is at most 2 x 10^15, and so is every figure of a consumer
-  pub injected-most : (g : ℕ) → b .gen g .injected ≤ 2_000_000_000_000_000
+  pub injected-most : (g : ℕ) → b .gen g .injected ≤ mostFigure
   injected-most g = omega (arith, f .gen g .injected, f .counts .blocks-high)
 
-  pub metered-most : (c : ℕ) → b .con c .metered ≤ 2_000_000_000_000_000
+  pub metered-most : (c : ℕ) → b .con c .metered ≤ mostFigure
   metered-most c = omega (arith, f .con c .metered, f .counts .blocks-high)
 
   -- the kW of a pair

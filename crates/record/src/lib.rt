@@ -34,7 +34,7 @@ pub struct Schedule {
     pub rank: [u64; 128],
 }
 
-// the terms of the generator equation, in its order
+// the terms of the generator equation, in its order; document 01's loss is lost here
 pub struct Generators {
     pub injected: [u64; 8],
     pub unaccounted: [u64; 8],
@@ -74,7 +74,7 @@ pub struct Answer {
     pub after: Record,
 }
 
-// one generator's terms
+// one generator's terms, named as in Generators
 pub struct GeneratorTerms {
     pub injected: u64,
     pub unaccounted: u64,
@@ -88,7 +88,7 @@ pub struct GeneratorTerms {
     pub pending: u64,
 }
 
-// one consumer's terms
+// one consumer's terms, named as in Consumers
 pub struct ConsumerTerms {
     pub metered: u64,
     pub setoff: u64,

@@ -10,7 +10,7 @@ use Rattle.table.specs.Table.{startsWithNames, values, readNumber}
 use Rattle.record.specs.Book.{Book}
 use Rattle.record.specs.declared.GeneratorTerms.{GeneratorTerms}
 use Rattle.agreement_rules.specs.Opening.{opened}
-use Rattle.unit.specs.Calls.{Call, block, closing, bookAfter, Entry, bookAnswers}
+use Rattle.unit.specs.Calls.{Call, block, closing, bookAfter, BookAnswer, bookAnswers}
 use Rattle.unit.specs.AgreementA.{agreementA, scheduleA}
 use Rattle.report_rules.specs.Words.{bytes}
 
@@ -43,7 +43,7 @@ unfoldable pub calls : List ℕ → List Call
 calls vs = scheduleA ∷ (blocks vs ++ (closing 9 ∷ []))
 
 -- the number of the first call that the book refuses; 0 where it refuses none
-unfoldable pub firstRefused : List Entry → ℕ
+unfoldable pub firstRefused : List BookAnswer → ℕ
 firstRefused [] = 0
 firstRefused (e ∷ es) = if eqb (e .number) 0 then firstRefused es else e .number
 

@@ -11,17 +11,23 @@ fn least(a: u64, b: u64) -> u64
     if a < b { a } else { b }
 }
 
-// The generators of an order, the keys of which `a` holds, give of what they have to one who wants so much: `has` falls by what `taken`,
-// lent as zeros, says of each. The result is what is left wanted.
-pub fn settle(a: &[usize; 8], n: usize, has: &mut [u64; 8], taken: &mut [u64; 8], want: u64) -> u64
-    requires { ⌜ Stocked (now a) n (now has) (now taken) ⌝ }
-    ensures { λ r. ⌜ settledIn (now (taken .exit)) (now (has .exit)) r ≡ settled (turnsOf (now (a .entry)) n) (now (has .entry)) want ⌝ }
+// Generators give of what they have, in the order that `keys` holds, to one who wants `want`. `taken`, lent as zeros, says how much each
+// gave; `has` falls by it. The result is what is still wanted.
+pub fn settle(
+    keys: &[usize; 8],
+    n: usize,
+    has: &mut [u64; 8],
+    taken: &mut [u64; 8],
+    want: u64,
+) -> u64
+    requires { ⌜ Stocked (now keys) n (now has) (now taken) ⌝ }
+    ensures { λ r. ⌜ settledIn (now (taken .exit)) (now (has .exit)) r ≡ settled (turnsOf (now (keys .entry)) n) (now (has .entry)) want ⌝ }
 {
     let mut left = want;
     let mut i = n;
     while i > 0 {
         i -= 1;
-        let g = a[i] % 8;
+        let g = keys[i] % 8;
         let h = has[g];
         let x = least(h, left);
         has[g] = h - x;

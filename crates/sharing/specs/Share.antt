@@ -9,8 +9,8 @@ use Rattle.lists.specs.Tables.{table}
 use Rattle.lists.specs.Pairs.{place}
 use Rattle.energy.specs.Limits.{mostReading, mostCapacity, mostConsumers}
 
--- The part of consumer c (counted from 0) in K, shared over a(0), …, a(C - 1). Their sum is document 01's A, the sums of the
--- first c and of the first c + 1 figures are its S(c - 1) and S(c).
+-- The part of consumer c in K, shared over a(0), …, a(C - 1), whose sum is document 01's A. Consumers are counted from 0 here and from 1
+-- there: the sums of the first c and of the first c + 1 figures are its S(c) and S(c + 1).
 unfoldable pub part : ℕ → (ℕ → ℕ) → ℕ → ℕ → ℕ
 part C a K c = if eqb (sum C a) 0 then 0 else K * sum (suc c) a / sum C a - K * sum c a / sum C a
 

@@ -1,6 +1,6 @@
 // The test of soundness on the record's bytes, each number read where it stands; crates sound_items and sound_totals test what was read.
 // Tests are joined by & and |, which do not branch.
-// Called by this repository's crates only: what a function requires, its callers meet.
+// A function with a `requires` is called by this repository's crates only, and they meet it.
 ghost use mathlib.Core.Path.{_≡_};
 ghost use mathlib.Core.Bool.{true, false};
 ghost use Prim.Native.Nat.{_+_, _*_, _<_, _≤_};

@@ -11,9 +11,8 @@ use lib.ListN.{length, take, drop, getD, length-append, length-drop, take-append
 use lib.Seq.{take-append-seam, drop-append-seam, getD-take, take-append-le, drop-append-le}
 use Rattle.lists.specs.Choice.{if_then_else_}
 use Rattle.lists.specs.PairsLaws.{cell-index}
-use Rattle.table.specs.Table.{inRange, values, readNumber, readAnswer, fromStart, readOutput, ReadMeets, displayed}
+use Rattle.table.specs.Table.{inRange, values, readNumber, readAnswer, fromStart, readOutput, ReadMeets}
 use Rattle.table.specs.Accepting.{accepted, IsTable, accepts-only}
-use Rattle.table.specs.declared.Read.{Read}
 use Rattle.table.specs.declared.Read.the-variants.{Lines, Refused}
 
 -- What an answer of k lines says: the text is the table of k lines of g + c values, the values stand in the first k * (g + c)
@@ -94,16 +93,6 @@ module _ {g c k : ℕ} {text out last : List ℕ} (m : ReadMeets g c text out (L
       ∙ part-before (i * (g + c) + p) n (values g c text) (drop (k * (g + c)) last) (omega (arith, r .count))
 
 -- ---- refusals
-
--- the number that an answer shows is the lowest that applies
-pub shows : {g c : ℕ} {text out last : List ℕ} {r : Read} → ReadMeets g c text out r last → displayed r ≡ readNumber g c text (length out)
-unfolding readAnswer displayed
-shows {g} {c} {text} {out} {last} {r} m = rw (m .answer) (go (eqb (readNumber g c text (length out)) 0) refl)
-  where
-    go : (t : Bool) → eqb (readNumber g c text (length out)) 0 ≡ t
-        → displayed (if t then Lines (length (values g c text) / (g + c)) else Refused (readNumber g c text (length out))) ≡ readNumber g c text (length out)
-    go true e = sym (eqb-true (readNumber g c text (length out)) 0 e)
-    go false e = refl
 
 -- a refusal has a number, and leaves the output unchanged
 pub refusal : {g c n : ℕ} {text out last : List ℕ} → ReadMeets g c text out (Refused n) last → (n ≡ 0 → ⊥) × (last ≡ out)

@@ -12,7 +12,7 @@ use Rattle.lists.specs.Choice.{if_then_else_}
 use Rattle.lists.specs.Refusals.{firstOf}
 use Rattle.table_text.specs.TableText.{namesLine}
 use Rattle.table_text.specs.TableTextLaws.{line-some}
-use Rattle.table.specs.Table.{inRange, same, startsWithNames, laterLines, numbers, values, wellFormed, readNumber, readAnswer, fromStart, readOutput, ReadMeets}
+use Rattle.table.specs.Table.{inRange, same, startsWithNames, laterLines, numbers, values, wellFormed, readNumber, readLines, displayed, linesOf, readAnswer, fromStart, readOutput, ReadMeets}
 use Rattle.table.specs.TableLaws.{same-true, ranged}
 use Rattle.table.specs.Parts.{LinesMeet, namesLength}
 use Rattle.table.specs.declared.Read.{Read}
@@ -21,10 +21,10 @@ use Rattle.table.specs.declared.Read.the-variants.{Lines, Refused}
 -- ---- the numbers
 
 refused : (g c : ℕ) (text out : List ℕ) (n : ℕ) → 0 < n → readNumber g c text (length out) ≡ n → ReadMeets g c text out (Refused n) out
-unfolding readAnswer readOutput
+unfolding readLines displayed linesOf readAnswer readOutput
 refused g c text out n p e =
     let z : eqb (readNumber g c text (length out)) 0 ≡ false = ne-eqb (readNumber g c text (length out)) 0 (λ q. omega arith) in
-    record { answer = rw z (ap Refused (sym e)); output = rw z }
+    record { number = sym e; lines = rw z; answer = rw z (ap Refused (sym e)); output = rw z }
 
 number-2 : (g c : ℕ) (text : List ℕ) (room : ℕ) → inRange g c ≡ false → readNumber g c text room ≡ 2
 unfolding readNumber firstOf
@@ -75,12 +75,15 @@ module _ {g c n k : ℕ} {text : List ℕ} (out : List ℕ) (b : Begun g c text 
   meets-16 l = refused g c text out 16 (omega arith) (last ∙ rw (lt-ltb (length out) k l))
 
   meets-lines : k ≤ length out → (m : List ℕ) → m ≡ fromStart (numbers 0 (drop n text)) out → ReadMeets g c text out (Lines (k / (g + c))) m
-  unfolding readAnswer readOutput values
+  unfolding readLines displayed linesOf readAnswer readOutput values
   meets-lines l m h =
       let z : readNumber g c text (length out) ≡ 0 = last ∙ rw (le-ltb (length out) k l) in
       let y : eqb (readNumber g c text (length out)) 0 ≡ true = eq-eqb (readNumber g c text (length out)) 0 z in
+      let count : k ≡ length (numbers 0 (laterLines g c text)) = e ∙ ap (λ (x : List ℕ). length (numbers 0 x)) (begun-lines b) in
       record {
-        answer = rw y (ap (λ (x : ℕ). Lines (x / (g + c))) (e ∙ ap (λ (x : List ℕ). length (numbers 0 x)) (begun-lines b)));
+        number = sym z;
+        lines = rw y (ap (λ (x : ℕ). x / (g + c)) count);
+        answer = rw y (ap (λ (x : ℕ). Lines (x / (g + c))) count);
         output = rw y (h ∙ ap (λ (x : List ℕ). fromStart (numbers 0 x) out) (begun-lines b));
       }
 

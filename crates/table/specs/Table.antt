@@ -77,11 +77,28 @@ readNumber g c text room =
     ∷ (16, ltb room (length (values g c text)))
     ∷ [])
 
--- 'returns the number of value lines, the names line not counted', or the number on the display
+-- 'the number of value lines, the names line not counted'
+abbrev pub lineCount : ℕ → ℕ → List ℕ → ℕ
+lineCount g c text = length (values g c text) / (g + c)
+
+-- those that are returned: none where the text is refused
+unfoldable pub readLines : ℕ → ℕ → List ℕ → ℕ → ℕ
+readLines g c text room = if eqb (readNumber g c text room) 0 then lineCount g c text else 0
+
+-- Document 01's number for each answer, 0 where it is accepted, and its count of lines.
+unfoldable pub displayed : Read → ℕ
+displayed (Lines k) = 0
+displayed (Refused n) = n
+
+unfoldable pub linesOf : Read → ℕ
+linesOf (Lines k) = k
+linesOf (Refused n) = 0
+
+-- the answer itself: its lines, or its number
 unfoldable pub readAnswer : ℕ → ℕ → List ℕ → ℕ → Read
 readAnswer g c text room =
     if eqb (readNumber g c text room) 0
-    then Lines (length (values g c text) / (g + c))
+    then Lines (lineCount g c text)
     else Refused (readNumber g c text room)
 
 -- 'writes the values from the start, leaves the rest'
@@ -94,10 +111,7 @@ readOutput g c text out = if eqb (readNumber g c text (length out)) 0 then fromS
 
 -- A call of the reader on out gave the answer r and left last in its place
 pub record ReadMeets (g c : ℕ) (text out : List ℕ) (r : Read) (last : List ℕ) : Type 0 where
+  pub number : displayed r ≡ readNumber g c text (length out)
+  pub lines : linesOf r ≡ readLines g c text (length out)
   pub answer : r ≡ readAnswer g c text (length out)
   pub output : last ≡ readOutput g c text out
-
--- The paper's number for each answer: 0 is accepted
-unfoldable pub displayed : Read → ℕ
-displayed (Lines k) = 0
-displayed (Refused n) = n

@@ -11,7 +11,7 @@ use Rattle.lists.specs.Choice.{if_then_else_}
 use Rattle.lists.specs.Tests.{within}
 use Rattle.lists.specs.Refusals.{firstOf}
 use Rattle.table.specs.Table.{inRange, startsWithNames, laterLines, wellFormed, values, readNumber, ReadMeets, displayed}
-use Rattle.table.specs.ReadMeetsLaws.{lines-read, shows, refusal}
+use Rattle.table.specs.ReadMeetsLaws.{lines-read, refusal}
 use Rattle.table.specs.declared.Read.{Read}
 use Rattle.table.specs.declared.Read.the-variants.{Lines, Refused}
 use Rattle.report_rules.specs.Display.{mostInput, space, tableNumber}
@@ -62,7 +62,7 @@ number-long text e h = rw (e, lt-ltb mostInput (length text) h)
 
 module _ {text out last : List ℕ} (size : length out ≡ space) where
   number-read : {r : Read} → ReadMeets 1 2 text out r last → displayed r ≡ readNumber 1 2 text space
-  number-read m = shows m ∙ ap (readNumber 1 2 text) size
+  number-read m = m .number ∙ ap (readNumber 1 2 text) size
 
   pub input-short : (r : Read) → ReadMeets 1 2 text out r last → length text ≤ mostInput → InputRead text r last
   unfolding InputRead displayed

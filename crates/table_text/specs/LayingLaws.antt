@@ -1,10 +1,10 @@
 -- Laws of bytes laid into a buffer. Assumes nothing.
-use Prim.Native.Nat.{ℕ, suc, _+_, _≤_, _<_}
+use Prim.Native.Nat.{ℕ, suc, _+_, _-_, _≤_, _<_}
 use mathlib.Core.Path.{_≡_, refl, sym, ap, _∙_}
 use mathlib.Core.List.{List, [], _∷_, _++_, append-assoc}
 use native.Mathlib.Omega.{arith}
-use lib.ListN.{length, take, drop, set, length-take, length-drop, length-append}
-use lib.Seq.{set-split, take-at, drop-append-add, drop-drop}
+use lib.ListN.{length, take, drop, getD, set, length-take, length-drop, length-append}
+use lib.Seq.{set-split, take-at, drop-append-add, drop-drop, getD-append-add, getD-drop}
 use Rattle.table_text.specs.Laying.{laid, Put}
 
 length-laid : (l : List ℕ) (i : ℕ) (xs : List ℕ) → i + length xs ≤ length l → length (laid l i xs) ≡ length l
@@ -50,6 +50,16 @@ put-more {l} {m} {xs} {i} {e} x p h =
 pub put-start : {l m xs : List ℕ} {e : ℕ} → Put l 0 xs e m → length xs ≤ length l → take e m ≡ xs
 unfolding laid
 put-start {l} {m} {xs} {e} p h = rw (p .is) (take-at xs (drop (0 + length xs) l) e (omega (arith, p .ends)))
+
+-- what stands behind it is as it was
+pub put-behind : {l m xs : List ℕ} {e : ℕ} → Put l 0 xs e m → (k : ℕ) → e ≤ k → getD m k 0 ≡ getD l k 0
+unfolding laid
+put-behind {l} {m} {xs} {e} p k h =
+    let j : ℕ = k - length xs in
+    let q : k ≡ length xs + j = omega (arith, p .ends) in
+    let r : 0 + length xs + j ≡ k = omega (arith, p .ends) in
+    ap (λ (x : List ℕ). getD x k 0) (p .is) ∙ ap (λ (i : ℕ). getD (xs ++ drop (0 + length xs) l) i 0) q ∙
+    getD-append-add xs (drop (0 + length xs) l) j 0 ∙ getD-drop (0 + length xs) l j 0 ∙ ap (λ (i : ℕ). getD l i 0) r
 
 -- xs laid after one byte
 pub put-cons : {l n xs : List ℕ} {i x r : ℕ} → i < length l → Put (set l i x) (i + 1) xs r n → Put l i (x ∷ xs) r n

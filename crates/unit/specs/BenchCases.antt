@@ -12,19 +12,19 @@ use Rattle.sharing.specs.Share.{part}
 use Rattle.order_rules.specs.Order.{span, insert, sort, only, ahead, inOrder}
 use Rattle.order_rules.specs.Settle.{lower, settle, given, kept, unmet}
 use Rattle.delivery_rules.specs.Plan.{deemed, scheduled, order, suppliers}
-use Rattle.delivery_rules.specs.Delivery.{counted, unaccounted, partOf, lossOf, delivered, atExit}
+use Rattle.delivery_rules.specs.Delivery.{countedOf, counted, unaccounted, partOf, lossOf, delivered, atExit}
 use Rattle.settlement_rules.specs.Settlement.{setOff, afterSetOff, underdrawn, shortfall, remainder, blockLists, blockOutput}
 use Rattle.record.specs.Book.{noInjection, noConsumption}
-use Rattle.agreement_rules.specs.Opening.{Opening, kindOf, installedOf, contractedOf, linkOf, rateOfLoss, openingRefusal, opened}
+use Rattle.agreement_rules.specs.Opening.{Opening, kindOf, installedOf, contractedOf, linkOf, rateOfLoss, sizesFit, termsFit, openingRefusal, opened}
 use Rattle.agreement_rules.specs.Schedule.{newKw, newRank, scheduleRefusal, afterSchedule, scheduleRule}
 use Rattle.block_rules.specs.Block.{generatorAfterBlock, consumerAfterBlock, afterBlock, blockLength, entryOf, exitOf, blockRefusal, blockRule}
 use Rattle.closing_rules.specs.Drawing.{stockAt, drawnAt, missingAt}
 use Rattle.closing_rules.specs.Closing.{takenUp, charge, credited, banks, drawn, supplied, lapses, goneAfter, bankBeforeLapse, lapsed, bankAfter, generatorAfterClosing, consumerAfterClosing, afterClosing, closingLists, closingOutput, closingLength, closingRefusal, closingRule}
 use Rattle.unit.specs.AgreementA.{agreementA, scheduleA}
-use Rattle.unit.specs.Calls.{Call, schedule, block, closing, ruleOf, next, bookAfter, Entry, bookAnswers}
+use Rattle.unit.specs.Calls.{Call, schedule, block, closing, ruleOf, next, bookAfter, BookAnswer, bookAnswers}
 
 -- an accepted call with this output
-abbrev accepted : List ℕ → Entry
+abbrev accepted : List ℕ → BookAnswer
 accepted xs = record { number = 0; output = xs }
 
 -- the readings table of agreement A: its first line, and its second
@@ -116,6 +116,7 @@ pub record BenchCases : Type 0 where
   pub P9 :
       bookAnswers (opened (wind 1)) (schedule (1 ∷ []) (1 ∷ []) ∷ block (1 ∷ []) (0 ∷ []) 6 ∷ []) ≡
       accepted [] ∷ accepted (1 ∷ 0 ∷ 0 ∷ 0 ∷ 0 ∷ 0 ∷ []) ∷ []
+  pub P9-part : partOf (bookAfter (opened (wind 1)) (schedule (1 ∷ []) (1 ∷ []) ∷ []) .plan) 0 1 0 ≡ 1
   pub P9-delivered : delivered (bookAfter (opened (wind 1)) (schedule (1 ∷ []) (1 ∷ []) ∷ []) .plan) 0 1 0 ≡ 0
   -- P10: remainder 38,000,000
   pub P10 :
@@ -126,7 +127,7 @@ pub record BenchCases : Type 0 where
       []
 
 pub bench-cases : BenchCases
-unfolding agreementA oneConsumer oneScheduled twoScheduled wind slot50 sum table all some within place cell pairs joined firstOf portionUp lossOn part span insert sort only ahead inOrder lower settle given kept unmet deemed scheduled order suppliers counted unaccounted partOf lossOf delivered atExit setOff afterSetOff underdrawn shortfall remainder blockLists blockOutput noInjection noConsumption kindOf installedOf contractedOf linkOf rateOfLoss openingRefusal opened newKw newRank scheduleRefusal afterSchedule scheduleRule generatorAfterBlock consumerAfterBlock afterBlock blockLength entryOf exitOf blockRefusal blockRule takenUp charge credited stockAt drawnAt missingAt banks drawn supplied lapses goneAfter bankBeforeLapse lapsed bankAfter generatorAfterClosing consumerAfterClosing afterClosing closingLists closingOutput closingLength closingRefusal closingRule ruleOf next bookAfter bookAnswers
+unfolding agreementA oneConsumer oneScheduled twoScheduled wind slot50 sum table all some within place cell pairs joined firstOf portionUp lossOn part span insert sort only ahead inOrder lower settle given kept unmet deemed scheduled order suppliers countedOf counted unaccounted partOf lossOf delivered atExit setOff afterSetOff underdrawn shortfall remainder blockLists blockOutput noInjection noConsumption kindOf installedOf contractedOf linkOf rateOfLoss sizesFit termsFit openingRefusal opened newKw newRank scheduleRefusal afterSchedule scheduleRule generatorAfterBlock consumerAfterBlock afterBlock blockLength entryOf exitOf blockRefusal blockRule takenUp charge credited stockAt drawnAt missingAt banks drawn supplied lapses goneAfter bankBeforeLapse lapsed bankAfter generatorAfterClosing consumerAfterClosing afterClosing closingLists closingOutput closingLength closingRefusal closingRule ruleOf next bookAfter bookAnswers
 bench-cases =
     record {
       all-opened = refl;
@@ -142,6 +143,7 @@ bench-cases =
       P7 = refl;
       P8 = refl;
       P9 = refl;
+      P9-part = refl;
       P9-delivered = refl;
       P10 = refl;
     }

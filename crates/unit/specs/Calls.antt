@@ -30,10 +30,10 @@ bookAfter b [] = b
 bookAfter b (k ∷ ks) = bookAfter (next b k) ks
 
 -- what the book answers: 0 or a refusal number other than 1, and the output of an accepted call
-pub record Entry : Type 0 where
+pub record BookAnswer : Type 0 where
   pub number : ℕ
   pub output : List ℕ
 
-unfoldable pub bookAnswers : Book → List Call → List Entry
+unfoldable pub bookAnswers : Book → List Call → List BookAnswer
 bookAnswers b [] = []
 bookAnswers b (k ∷ ks) = record { number = ruleOf k .refusal b; output = ruleOf k .output b } ∷ bookAnswers (next b k) ks

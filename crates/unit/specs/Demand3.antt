@@ -8,13 +8,14 @@ use lib.Dec.{eqb}
 use lib.ListN.{length, getD, take}
 use Rattle.lists.specs.Choice.{if_then_else_}
 use Rattle.lists.specs.Sums.{sum}
+use Rattle.energy.specs.Limits.{mostFigure}
 use Rattle.record.specs.Book.{Book}
 use Rattle.record.specs.Stored.{figures, stored}
 use Rattle.record.specs.Sound.{sound}
 use Rattle.record.specs.declared.Record.{Record}
 use Rattle.agreement_rules.specs.Opening.{Opening, linkOf, opened, Opened, Permitted}
 use Rattle.closing_rules.specs.Closing.{bankBeforeLapse, supplied}
-use Rattle.unit.specs.Calls.{Call, schedule, block, closing, ruleOf, next, bookAfter, Entry, bookAnswers}
+use Rattle.unit.specs.Calls.{Call, schedule, block, closing, ruleOf, next, bookAfter, BookAnswer, bookAnswers}
 use Rattle.unit.specs.Trace.{Ask, callOf, lentOf, Given, Trace, lastRecord}
 
 abbrev pub at : List ℕ → ℕ → ℕ
@@ -22,13 +23,13 @@ at xs i = getD xs i 0
 
 -- The same calls were accepted as in the book, and a refused one with the book's number; the output of an accepted one is the
 -- book's, that of a refused one as it was lent.
-pub record Match (a : Ask) (w : Given) (e : Entry) : Type 0 where
+pub record Match (a : Ask) (w : Given) (e : BookAnswer) : Type 0 where
   pub number-is : w .answer .number ≡ e .number
   pub output-is : w .out ≡ (if eqb (e .number) 0 then e .output else lentOf a)
 
-pub data Matches : List Ask → List Given → List Entry → Type 0 where
+pub data Matches : List Ask → List Given → List BookAnswer → Type 0 where
   match-none : Matches [] [] []
-  match-one : {a : Ask} {w : Given} {e : Entry} {as′ : List Ask} {ws : List Given} {es : List Entry} → Match a w e → Matches as′ ws es → Matches (a ∷ as′) (w ∷ ws) (e ∷ es)
+  match-one : {a : Ask} {w : Given} {e : BookAnswer} {as′ : List Ask} {ws : List Given} {es : List BookAnswer} → Match a w e → Matches as′ ws es → Matches (a ∷ as′) (w ∷ ws) (e ∷ es)
 
 -- In an accepted closing no linked pair's generator still has bank before the lapse while its consumer has energy supplied. Both
 -- are the book's, and stand in the output: lapsed plus bank, and the last list.
@@ -47,10 +48,6 @@ NotIdleIn o b (closing size) out = ruleOf (closing size) .refusal b ≡ 0 → No
 pub data NoIdleBanks (o : Opening) : Book → List Call → List Given → Type 0 where
   idle-none : {b : Book} → NoIdleBanks o b [] []
   idle-one : {b : Book} {k : Call} {ks : List Call} {w : Given} {ws : List Given} → NotIdleIn o b k (w .out) → NoIdleBanks o (next b k) ks ws → NoIdleBanks o b (k ∷ ks) (w ∷ ws)
-
--- a figure that no unit exceeds
-abbrev pub mostFigure : ℕ
-mostFigure = 2_000_000_000_000_000
 
 -- What demand 3 says of a list of calls and of what they gave, on the record r that the last of them left.
 pub record Demand3 (o : Opening) (asks : List Ask) (ws : List Given) (r : Record) : Type 0 where

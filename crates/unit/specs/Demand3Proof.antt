@@ -11,6 +11,7 @@ use Rattle.lists.specs.Choice.{if_then_else_}
 use Rattle.lists.specs.Sums.{sum, sum-cong, sum-zero}
 use Rattle.lists.specs.Pairs.{place}
 use Rattle.lists.specs.PairsLaws.{place-in}
+use Rattle.energy.specs.Limits.{mostFigure}
 use Rattle.delivery_rules.specs.Plan.{Plan}
 use Rattle.record.specs.Book.{Book, noInjection, noConsumption}
 use Rattle.record.specs.Stored.{generatorAt, consumerAt, planOf, figures, stored, zeros}
@@ -31,7 +32,7 @@ use Rattle.closing_rules.specs.ClosingLaws.{closing-keeps, closing-setoff, clos
 use Rattle.closing_rules.specs.ClosingOutput.{closing-length, lapsed-at, bank-at, supplied-at}
 use Rattle.unit.specs.Calls.{Call, schedule, block, closing, ruleOf, next, bookAfter, bookAnswers}
 use Rattle.unit.specs.Trace.{Ask, askSchedule, askBlock, askClosing, callOf, lentOf, Given, Done, Trace, trace-none, trace-one, lastRecord}
-use Rattle.unit.specs.Demand3.{at, Match, Matches, match-none, match-one, NoIdleBank, NotIdleIn, NoIdleBanks, idle-none, idle-one, mostFigure, Demand3, Claim}
+use Rattle.unit.specs.Demand3.{at, Match, Matches, match-none, match-one, NoIdleBank, NotIdleIn, NoIdleBanks, idle-none, idle-one, Demand3, Claim}
 
 -- ---- what holds of the book at every moment
 

@@ -7,7 +7,7 @@ use Rattle.codec.specs.Bytes.{encode}
 use Rattle.record.specs.Stored.{stored}
 use Rattle.record.specs.Words.{words}
 use Rattle.agreement_rules.specs.Opening.{Opening, opened, Permitted}
-use Rattle.unit.specs.Calls.{Call, bookAfter, Entry, bookAnswers}
+use Rattle.unit.specs.Calls.{Call, bookAfter, BookAnswer, bookAnswers}
 use Rattle.unit.specs.Trace.{callOf}
 use Rattle.unit.specs.Demand3.{Demand3}
 use Rattle.layout_rules.specs.OnBytes.{recordIn, bytesAfter}
@@ -15,13 +15,13 @@ use Rattle.wheeling_rules.specs.Wheeling.{recordBytes, openingIn, ByteOpened}
 use Rattle.wheeling_book.specs.ByteTrace.{ByteAsk, askIn, bytesLent, ByteGiven, givenIn, ByteTrace, lastBytes}
 
 -- The number is the book's. The output's bytes are those of the book's output where the call was accepted, else as they were lent.
-pub record ByteMatch (a : ByteAsk) (w : ByteGiven) (e : Entry) : Type 0 where
+pub record ByteMatch (a : ByteAsk) (w : ByteGiven) (e : BookAnswer) : Type 0 where
   pub number-is : w .number ≡ e .number
   pub output-is : w .out ≡ bytesAfter (e .number) (e .output) (bytesLent a)
 
-pub data ByteMatches : List ByteAsk → List ByteGiven → List Entry → Type 0 where
+pub data ByteMatches : List ByteAsk → List ByteGiven → List BookAnswer → Type 0 where
   match-none : ByteMatches [] [] []
-  match-one : {a : ByteAsk} {w : ByteGiven} {e : Entry} {as′ : List ByteAsk} {ws : List ByteGiven} {es : List Entry} → ByteMatch a w e → ByteMatches as′ ws es → ByteMatches (a ∷ as′) (w ∷ ws) (e ∷ es)
+  match-one : {a : ByteAsk} {w : ByteGiven} {e : BookAnswer} {as′ : List ByteAsk} {ws : List ByteGiven} {es : List BookAnswer} → ByteMatch a w e → ByteMatches as′ ws es → ByteMatches (a ∷ as′) (w ∷ ws) (e ∷ es)
 
 -- what the book is fed of the calls
 abbrev pub callsIn : List ByteAsk → List Call

@@ -11,7 +11,7 @@ use Rattle.codec.specs.Bytes.{decode}
 use Rattle.record.specs.Words.{words}
 use Rattle.layout_rules.specs.OnBytes.{recordIn, bytesAfter}
 use Rattle.record.specs.declared.Answer.{Answer}
-use Rattle.agreement_rules.specs.Opening.{Opening, Opened}
+use Rattle.agreement_rules.specs.Opening.{Opening, asked, Opened}
 use Rattle.agreement_rules.specs.Schedule.{Scheduled}
 use Rattle.block_rules.specs.Block.{Blocked}
 use Rattle.closing_rules.specs.Closing.{Closed}
@@ -45,8 +45,7 @@ pub record OnBytes (refusal : ℕ) (ensured : Answer → List ℕ → Type 0) (b
 
 -- the arguments of opening, its two lists as bytes
 abbrev pub openingIn : (G C rate cycle gone : ℕ) (generators pairs : List ℕ) → Opening
-openingIn G C rate cycle gone generators pairs =
-    record { G = G; C = C; rate = rate; cycle = cycle; gone = gone; generators = numbersIn 4 generators; pairs = numbersIn 4 pairs }
+openingIn G C rate cycle gone generators pairs = asked G C rate cycle gone (numbersIn 4 generators) (numbersIn 4 pairs)
 
 abbrev pub ByteOpened : Opening → List ℕ → ℕ → List ℕ → Type 0
 ByteOpened o bytes number bytes′ = OnBytes 2 (λ a out. Opened o (a .number) (a .after)) bytes [] number bytes′ []

@@ -19,9 +19,8 @@ use Rattle.record.specs.Called.{Rule, numberOn, recordAfter, outputAfter, Calle
 use Rattle.record.specs.CalledLaws.{record-facts, number-sound, number-unsound, accepted-sound, record-accepted, record-refused, output-accepted}
 use Rattle.record.specs.declared.Record.{Record}
 use Rattle.record.specs.declared.Answer.{Answer}
-use Rattle.agreement_rules.specs.Opening.{Opening, openingRefusal, opened, Opened}
+use Rattle.agreement_rules.specs.Opening.{Opening, asked, openingRefusal, opened, Opened}
 use Rattle.agreement_rules.specs.OpeningLaws.{opening-sized}
-use Rattle.agreement_rules.specs.Refusing.{asked}
 use Rattle.agreement_rules.specs.Schedule.{scheduleRule, Scheduled}
 use Rattle.agreement_rules.specs.ScheduleLaws.{schedule-sized}
 use Rattle.block_rules.specs.Block.{blockLength, blockRefusal, blockRule, Blocked}

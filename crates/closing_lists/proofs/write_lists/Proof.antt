@@ -12,17 +12,17 @@ use Rattle.closing_lists.proofs.write_lists.Tie as tie
 mul-size : tie.Need-mul-size
 mul-size c = search needs
 
-add-second : tie.Need-add-second
-add-second c = search needs
+add-lapsed-at : tie.Need-add-lapsed-at
+add-lapsed-at c = search needs
 
-add-third : tie.Need-add-third
-add-third c = search needs
+add-bank-at : tie.Need-add-bank-at
+add-bank-at c = search needs
 
-add-fourth : tie.Need-add-fourth
-add-fourth c = search needs
+add-open-at : tie.Need-add-open-at
+add-open-at c = search needs
 
-add-last : tie.Need-add-last
-add-last c = search needs
+add-supplied-at : tie.Need-add-supplied-at
+add-supplied-at c = search needs
 
 put-pairs-requires : tie.Need-put-pairs-requires
 put-pairs-requires c κs = let room = c .before .before .pre in (omega (arith, room .size), (room .rows, room .columns))
@@ -71,10 +71,10 @@ write-lists-spec =
     tie.close
     (tie.spec
     mul-size
-    add-second
-    add-third
-    add-fourth
-    add-last
+    add-lapsed-at
+    add-bank-at
+    add-open-at
+    add-supplied-at
     put-pairs-requires
     put8-requires
     put8-requires-2

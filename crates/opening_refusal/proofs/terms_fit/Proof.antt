@@ -2,7 +2,7 @@
 use mathlib.Core.Path.{refl}
 use borrow.Author.Needs.{needs}
 use Rattle.lists.specs.Tests.{within}
-use Rattle.agreement_rules.specs.Refusing.{termsFit}
+use Rattle.agreement_rules.specs.Opening.{termsFit}
 use Rattle.opening_refusal.proofs.terms_fit.Statement.{statement}
 use Rattle.opening_refusal.proofs.terms_fit.Tie as tie
 

@@ -5,7 +5,7 @@ use native.Mathlib.Omega.{arith}
 use lib.ListN.{getD}
 use borrow.Author.Needs.{needs}
 use Rattle.lists.specs.Sums.{Summing, sum-start, sum-step, sum-done}
-use Rattle.arrays.specs.Bounds.{mostFigure}
+use Rattle.energy.specs.Limits.{mostFigure}
 use Rattle.raising.specs.RaiseLaws.{row-within}
 use Rattle.raising.proofs.column_sum.Statement.{statement}
 use Rattle.raising.proofs.column_sum.Tie as tie
