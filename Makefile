@@ -1,4 +1,4 @@
-# make              proves and builds the library, the example host and, where its crate is there, program wheel
+# make              proves and builds the library, the example host and program wheel
 # make test         tests/run: all tests that are not proofs
 # make check        .ci/run: the gate. The proofs from nothing, the edits that the prover must refuse, and make test
 # make bench        the library against a plain engine: instructions, time and stack of each call
@@ -14,7 +14,7 @@ INSTALL = install
 
 LIBRARY = target/staticlib/libwheeling.a
 HOST = target/examples/host
-WHEEL = $(if $(wildcard crates/wheel),target/bin/wheel)
+WHEEL = target/bin/wheel
 SOURCES = crates.txt $(shell find crates -type f)
 
 .PHONY: all test check bench fuzz install clean
@@ -28,7 +28,7 @@ $(LIBRARY): $(SOURCES)
 	@touch $@
 
 # After the library: both write below target.
-target/bin/wheel: $(SOURCES) | $(LIBRARY)
+$(WHEEL): $(SOURCES) | $(LIBRARY)
 	rt check wheel
 	@touch $@
 

@@ -2,11 +2,12 @@
  *
  *     host RECORD < JOURNAL
  *
- * RECORD is the file of the unit's record. Where there is none yet, agreement A of document 01 is opened and its
- * schedule entered. JOURNAL has all readings since the opening, as document 01's readings table: a line of names, then
- * a line of values for each block; a line `close` stands where a month ends. What the record holds already is passed
- * over, so the host may be started again on the same journal, or on one that has grown. At the end it prints the
- * equations of generators and consumers. It ends with 1 and a message where a call was refused or something failed.
+ * RECORD is the file of the unit's record. Where there is none yet, agreement A of document 01 is opened. Until the first
+ * block is entered, A's schedule is entered at each start, whatever stands. JOURNAL has all readings since the opening,
+ * as document 01's readings table: a line of names, then a line of values for each block; a line `close` stands where a
+ * month ends. What the record holds already is passed over, so the host may be started again on the same journal, or on
+ * one that has grown. At the end it prints the equations of generators and consumers. It ends with 1 and a message where
+ * a call was refused or something failed.
  *
  * What a power cut can do: after each accepted call the record is written to a new file in the same folder, that file is
  * synced and renamed over the old one, and the folder is synced. Only then does the host act on the call: goes on, or
@@ -226,7 +227,7 @@ static void follow_journal(struct unit *unit)
         uint64_t entered = figure(unit, WHEELING_AT_UNIT_BLOCKS);
         sprintf(where, "journal, line %lu", number);
         if (strcmp(line, "close\n") == 0) {
-            /* A month that holds no block was closed before the host was started again. */
+            /* A month that holds no block was closed before the host was started again, or by a `close` just before. */
             if (blocks == entered && figure(unit, WHEELING_AT_MONTH_BLOCKS) > 0)
                 close_month(unit, where);
         } else if (!read_values(line, values, generators(unit) + consumers(unit))) {

@@ -31,8 +31,9 @@
  *   - Nobody writes the record between calls; a host reads its figures at the places below. A record that was damaged is
  *     refused with 1 where its figures break a rule; damage that leaves a sound record cannot be seen.
  *   - Stack of WHEELING_STACK_BYTES below the caller's frame.
- * The calls keep no state of their own and use no heap, no files and no clock. They are reentrant: threads may call at the
- * same time on different records. Calls on one record must come one after the other. */
+ * The library is built for x86-64 Linux. The calls keep no state of their own and use no heap, no files and no clock.
+ * They are reentrant: threads may call at the same time on different records. Calls on one record must come one after the
+ * other. */
 #ifndef WHEELING_H
 #define WHEELING_H
 
@@ -85,9 +86,8 @@ extern "C" {
 #define WHEELING_MOST_BLOCK_OUTPUT_BYTES 4288u
 #define WHEELING_MOST_CLOSE_OUTPUT_BYTES 1472u
 
-/* The stack that any call needs below its caller's frame, in bytes, at most. Measured on x86-64: opening 8,040, schedule
- * 2,569, block 6,121, closing 6,825; a program's first call some 3,000 more, where the loader only then looks up memcpy.
- * tests/stack.c fails where a call touches more than this. */
+/* The stack that any call needs below its caller's frame, in bytes, at most. `make bench` measures each call; tests/stack.c
+ * fails where one touches more than this. */
 #define WHEELING_STACK_BYTES 16384u
 
 /* ---- The calls ---- */

@@ -224,6 +224,9 @@ WRONG_HOSTS = (
      "stop(unit->path, strerror(errno));\n    return 1;", "return 1;"),
     ("the old file is written over", '"%s.new"', '"%s"'),
     ("a short write counts as whole", "done += (size_t)written;", "done = sizeof unit->record;"),
+    ("a save whose write was short is dropped", "done += (size_t)written;",
+     "if (done + (size_t)written < sizeof unit->record)\n            return;\n        "
+     "done += (size_t)written;"),
     ("a failed write is passed over", "if (written <= 0)\n            stop(unit->new_path, "
      "strerror(errno));", "if (written <= 0)\n            break;"),
     ("a month is closed again", " && figure(unit, WHEELING_AT_MONTH_BLOCKS) > 0", ""),
@@ -257,7 +260,7 @@ def wrong_after(host, made, started, renamed, fault, step):
         yield f"the host ends with {status}"
     # The record before the one that was being saved, or that one. Before the first is saved, the
     # host has not acted on the record that it was started on.
-    kept = made
+    kept = made[-1:] if fault == "short" else made
     if saving is not None:
         first = started + saving - (1 if saving or renamed else 0)
         kept = made[first:started + saving + 1]

@@ -348,7 +348,7 @@ def calls_on(G, C):
 
 
 def unsound_records():
-    """For each clause of soundness, records that break it and no other."""
+    """Records that break a clause of soundness, most of them one only, and sound ones at its edges."""
     G, C = 3, 2
 
     def changed(change):

@@ -124,7 +124,7 @@ static uint8_t *lend(struct lent *lent, const uint8_t *bytes, size_t size, int t
         if (lent->memory == MAP_FAILED || mprotect(lent->memory + MOST_LENT, PAGE, PROT_NONE))
             abort();
     }
-    /* In turn at the end of the memory and at each remainder of an address by 8. */
+    /* At the end of the memory, or at a remainder of an address by 8. */
     lent->start = turn % 2 ? lent->memory + MOST_LENT - size : lent->memory + GUARD + turn / 2 % 8;
     lent->size = size;
     memset(lent->start - GUARD, GUARD_BYTE, GUARD);

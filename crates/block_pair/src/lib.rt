@@ -27,7 +27,7 @@ fn gap(kind: u64, scheduled: Wh, rate: u64, delivered: u64) -> u64
     0
 }
 
-// The energy that the loss of a pair is taken on: its own part. A loss is rounded up, so that one on several parts together is another.
+// The energy that the loss of a pair is taken on: its own part. Rounded up once for several parts together, the loss would be another.
 fn lossy_at(parts: &[u32; 16], c: usize) -> Wh
     requires { ⌜ c < 16 ⌝ }
     ensures { λ r. ⌜ r .0 ≡ getD (now (parts .entry)) c 0 ⌝ }

@@ -2,7 +2,8 @@
 // Called by this repository's crates only: what a function requires, its callers meet.
 ghost use mathlib.Core.Path.{_≡_};
 ghost use Prim.Native.Nat.{_≤_};
-ghost use Rattle.block_rules.specs.Refusals.{overLimit, ownRefusal};
+ghost use Rattle.block_rules.specs.Block.{blockNumber};
+ghost use Rattle.block_rules.specs.Refusals.{overLimit};
 use record::Counts;
 
 // Whether a reading is over the limit.
@@ -22,7 +23,7 @@ fn any_over(readings: &[u32]) -> bool
 // the length that is read.
 pub fn refusal(n: usize, m: usize, counts: Counts, entry: &[u32], exit: &[u32], size: usize) -> u32
     requires { ⌜ (n ≤ 8) × (m ≤ 16) ⌝ }
-    ensures { λ r. ⌜ r ≡ ownRefusal n m (counts .month) (counts .blocks) (now (entry .entry)) (now (exit .entry)) size ⌝ }
+    ensures { λ r. ⌜ r ≡ blockNumber (now (entry .entry)) (now (exit .entry)) n m (counts .month) (counts .blocks) size ⌝ }
 {
     if (entry.len() == n) & (exit.len() == m) & (size == 4 * (n * m) + n + m) {
         let over = any_over(entry) | any_over(exit);

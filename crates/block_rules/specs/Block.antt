@@ -10,7 +10,7 @@ use Rattle.lists.specs.Tests.{some}
 use Rattle.lists.specs.Pairs.{place}
 use Rattle.lists.specs.Refusals.{firstOf}
 use Rattle.energy.specs.Limits.{mostReading, mostMonthBlocks, mostUnitBlocks}
-use Rattle.delivery_rules.specs.Plan.{Plan, deemed}
+use Rattle.delivery_rules.specs.Plan.{deemed}
 use Rattle.delivery_rules.specs.Delivery.{unaccounted, lossOf}
 use Rattle.settlement_rules.specs.Settlement.{setOff, underdrawn, shortfall, remainder, blockOutput}
 use Rattle.record.specs.Book.{Book}
@@ -71,8 +71,8 @@ module _ (b : Book) (E R : ℕ → ℕ) where
 -- ---- the call: one entry reading a generator, one exit reading a consumer, and the length of the output
 
 -- exactly 4GC + G + C numbers
-unfoldable pub blockLength : Plan → ℕ
-blockLength p = 4 * (p .G * p .C) + p .G + p .C
+unfoldable pub blockLength : (G C : ℕ) → ℕ
+blockLength G C = 4 * (G * C) + G + C
 
 module _ (entry exit : List ℕ) where
   unfoldable pub entryOf : Book → ℕ → ℕ
@@ -81,15 +81,18 @@ module _ (entry exit : List ℕ) where
   unfoldable pub exitOf : Book → ℕ → ℕ
   exitOf b = place (b .plan .C) exit
 
-  unfoldable pub blockRefusal : ℕ → Book → ℕ
-  blockRefusal size b =
-      let p = b .plan in
+  -- its number, by the counts of generators, consumers, month blocks and unit blocks
+  unfoldable pub blockNumber : (G C month blocks size : ℕ) → ℕ
+  blockNumber G C month blocks size =
       firstOf
-      ((2, not (eqb (length entry) (p .G) && eqb (length exit) (p .C) && eqb size (blockLength p))) ∷
-      (10, some (p .G) (λ g. ltb mostReading (entryOf b g)) || some (p .C) (λ c. ltb mostReading (exitOf b c))) ∷
-      (11, leb mostMonthBlocks (b .month)) ∷
-      (12, leb mostUnitBlocks (b .blocks)) ∷
+      ((2, not (eqb (length entry) G && eqb (length exit) C && eqb size (blockLength G C))) ∷
+      (10, some G (λ g. ltb mostReading (place G entry g)) || some C (λ c. ltb mostReading (place C exit c))) ∷
+      (11, leb mostMonthBlocks month) ∷
+      (12, leb mostUnitBlocks blocks) ∷
       [])
+
+  unfoldable pub blockRefusal : ℕ → Book → ℕ
+  blockRefusal size b = blockNumber (b .plan .G) (b .plan .C) (b .month) (b .blocks) size
 
   unfoldable pub blockRule : ℕ → Rule
   blockRule size =

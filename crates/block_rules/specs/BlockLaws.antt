@@ -20,13 +20,13 @@ use Rattle.settlement_rules.specs.SettlementLaws.{entry-split, exit-split}
 use Rattle.record.specs.Book.{Book}
 use Rattle.record.specs.CalledLaws.{Keeps}
 use Rattle.record.specs.SoundLaws.{Facts, GeneratorFacts, ConsumerFacts}
-use Rattle.block_rules.specs.Block.{generatorAfterBlock, consumerAfterBlock, afterBlock, blockLength, entryOf, exitOf, blockRefusal, blockRule}
+use Rattle.block_rules.specs.Block.{generatorAfterBlock, consumerAfterBlock, afterBlock, blockLength, entryOf, exitOf, blockNumber, blockRefusal, blockRule}
 
 -- a block to which no number applies
 pub record Enterable (entry exit : List ℕ) (size : ℕ) (b : Book) : Type 0 where
   pub entry-size : length entry ≡ b .plan .G
   pub exit-size : length exit ≡ b .plan .C
-  pub output-size : size ≡ blockLength (b .plan)
+  pub output-size : size ≡ blockLength (b .plan .G) (b .plan .C)
   pub entry-most : (g : ℕ) → entryOf entry exit b g ≤ mostReading
   pub exit-most : (c : ℕ) → exitOf entry exit b c ≤ mostReading
   pub month : b .month < mostMonthBlocks
@@ -34,13 +34,13 @@ pub record Enterable (entry exit : List ℕ) (size : ℕ) (b : Book) : Type 0 wh
 
 -- a length other than stated is refusal 2
 pub block-sized : (entry exit : List ℕ) (size : ℕ) (b : Book) →
-    (blockRefusal entry exit size b ≡ 2) ⊎ ((length entry ≡ b .plan .G) × ((length exit ≡ b .plan .C) × (size ≡ blockLength (b .plan))))
-unfolding blockRefusal
+    (blockRefusal entry exit size b ≡ 2) ⊎ ((length entry ≡ b .plan .G) × ((length exit ≡ b .plan .C) × (size ≡ blockLength (b .plan .G) (b .plan .C))))
+unfolding blockNumber blockRefusal
 block-sized entry exit size b =
     let p = b .plan in
     let x = eqb (length entry) (p .G) in
     let y = eqb (length exit) (p .C) in
-    let z = eqb size (blockLength p) in
+    let z = eqb size (blockLength (p .G) (p .C)) in
     ⊎-elim inl
     (λ (e : x && y && z ≡ true).
     let s = chain-at x (y ∷ z ∷ []) e in
@@ -63,12 +63,12 @@ module _ (entry exit : List ℕ) (b : Book) where
   overExit c = ltb mostReading (exitOf entry exit b c)
 
   pub accepted-enterable : (size : ℕ) → blockRefusal entry exit size b ≡ 0 → Enterable entry exit size b
-  unfolding blockRefusal
+  unfolding blockNumber blockRefusal entryOf exitOf
   accepted-enterable size e =
       let p = b .plan in
       let s =
-      chain-at (eqb (length entry) (p .G)) (eqb (length exit) (p .C) ∷ eqb size (blockLength p) ∷ [])
-      (not-false (eqb (length entry) (p .G) && eqb (length exit) (p .C) && eqb size (blockLength p)) (first-head 1 _ _ e)) in
+      chain-at (eqb (length entry) (p .G)) (eqb (length exit) (p .C) ∷ eqb size (blockLength (p .G) (p .C)) ∷ [])
+      (not-false (eqb (length entry) (p .G) && eqb (length exit) (p .C) && eqb size (blockLength (p .G) (p .C))) (first-head 1 _ _ e)) in
       let e₁ = first-tail 1 _ _ e in
       let e₂ = first-tail 9 _ _ e₁ in
       let e₃ = first-tail 10 _ _ e₂ in

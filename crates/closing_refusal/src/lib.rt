@@ -2,12 +2,12 @@
 // Called by this repository's crates only: what a function requires, its callers meet.
 ghost use mathlib.Core.Path.{_≡_};
 ghost use Prim.Native.Nat.{_≤_};
-ghost use Rattle.closing_steps.specs.Refusals.{ownRefusal};
+ghost use Rattle.closing_rules.specs.Closing.{closingNumber};
 
-// The refusals of a sound record with n generators and m consumers.
+// The number of a closing on a sound record with n generators and m consumers, whose month holds so many blocks.
 pub fn refusal(n: usize, m: usize, month: u64, size: usize) -> u32
     requires { ⌜ (n ≤ 8) × (m ≤ 16) ⌝ }
-    ensures { λ r. ⌜ r ≡ ownRefusal n m month size ⌝ }
+    ensures { λ r. ⌜ r ≡ closingNumber n m month size ⌝ }
 {
     let sized = size == n * m + 3 * n + 2 * m;
     let empty = lists::first(month == 0, 13, 0);

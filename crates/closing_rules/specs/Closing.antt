@@ -10,7 +10,6 @@ use Rattle.lists.specs.Tables.{table}
 use Rattle.lists.specs.Pairs.{pairs, joined}
 use Rattle.lists.specs.Refusals.{firstOf}
 use Rattle.energy.specs.Energy.{portionUp}
-use Rattle.delivery_rules.specs.Plan.{Plan}
 use Rattle.record.specs.Book.{Book}
 use Rattle.record.specs.Called.{Rule, Called}
 use Rattle.record.specs.declared.Record.{Record}
@@ -112,11 +111,15 @@ module _ (b : Book) where
 -- ---- the call, with the length of its output
 
 -- exactly GC + 3G + 2C numbers
-unfoldable pub closingLength : Plan → ℕ
-closingLength p = p .G * p .C + 3 * p .G + 2 * p .C
+unfoldable pub closingLength : (G C : ℕ) → ℕ
+closingLength G C = G * C + 3 * G + 2 * C
+
+-- its number, by the counts of generators, consumers and month blocks
+unfoldable pub closingNumber : (G C month size : ℕ) → ℕ
+closingNumber G C month size = firstOf ((2, not (eqb size (closingLength G C))) ∷ (13, eqb month 0) ∷ [])
 
 unfoldable pub closingRefusal : ℕ → Book → ℕ
-closingRefusal size b = firstOf ((2, not (eqb size (closingLength (b .plan)))) ∷ (13, eqb (b .month) 0) ∷ [])
+closingRefusal size b = closingNumber (b .plan .G) (b .plan .C) (b .month) size
 
 unfoldable pub closingRule : ℕ → Rule
 closingRule size = record { refusal = closingRefusal size; after = afterClosing; output = closingOutput }

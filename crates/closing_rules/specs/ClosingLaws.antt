@@ -21,7 +21,7 @@ use Rattle.record.specs.Book.{Book}
 use Rattle.record.specs.CalledLaws.{Keeps}
 use Rattle.record.specs.SoundLaws.{Facts, GeneratorFacts, ConsumerFacts}
 use Rattle.closing_rules.specs.Drawing.{stockAt, drawnAt, missingAt}
-use Rattle.closing_rules.specs.Closing.{takenUp, charge, credited, banks, drawn, supplied, lapses, goneAfter, bankBeforeLapse, lapsed, bankAfter, generatorAfterClosing, consumerAfterClosing, afterClosing, closingLength, closingRefusal, closingRule}
+use Rattle.closing_rules.specs.Closing.{takenUp, charge, credited, banks, drawn, supplied, lapses, goneAfter, bankBeforeLapse, lapsed, bankAfter, generatorAfterClosing, consumerAfterClosing, afterClosing, closingLength, closingNumber, closingRefusal, closingRule}
 
 module _ (b : Book) where
   -- pending - charge is exact
@@ -172,11 +172,11 @@ unfolding closingRule
 closing-keeps size b f e = closing-facts b f
 
 -- after a closing the month holds no block: closing again is 13
-pub closing-again : (b : Book) (size : ℕ) → size ≡ closingLength (b .plan) → closingRefusal size (afterClosing b) ≡ 13
-unfolding closingRefusal afterClosing firstOf
-closing-again b size e = rw (eq-eqb size (closingLength (b .plan)) e)
+pub closing-again : (b : Book) (size : ℕ) → size ≡ closingLength (b .plan .G) (b .plan .C) → closingRefusal size (afterClosing b) ≡ 13
+unfolding closingNumber closingRefusal afterClosing firstOf
+closing-again b size e = rw (eq-eqb size (closingLength (b .plan .G) (b .plan .C)) e)
 
 -- a length other than stated is refusal 2
-pub closing-sized : (size : ℕ) (b : Book) → (closingRefusal size b ≡ 2) ⊎ (size ≡ closingLength (b .plan))
-unfolding closingRefusal
-closing-sized size b = ⊎-elim inl (λ (e : eqb size (closingLength (b .plan)) ≡ true). inr (eqb-true size (closingLength (b .plan)) e)) (first-or 2 (eqb size (closingLength (b .plan))) _)
+pub closing-sized : (size : ℕ) (b : Book) → (closingRefusal size b ≡ 2) ⊎ (size ≡ closingLength (b .plan .G) (b .plan .C))
+unfolding closingNumber closingRefusal
+closing-sized size b = ⊎-elim inl (λ (e : eqb size (closingLength (b .plan .G) (b .plan .C)) ≡ true). inr (eqb-true size (closingLength (b .plan .G) (b .plan .C)) e)) (first-or 2 (eqb size (closingLength (b .plan .G) (b .plan .C))) _)

@@ -26,7 +26,7 @@ module _ (b : Book) where
   abbrev fromCharge : List (List ℕ)
   fromCharge = table (b .plan .G) (charge b) ∷ fromLapsed
 
-  pub closing-length : length (closingOutput b) ≡ closingLength (b .plan)
+  pub closing-length : length (closingOutput b) ≡ closingLength (b .plan .G) (b .plan .C)
   unfolding closingOutput closingLists closingLength
   closing-length =
       omega (

@@ -1,12 +1,12 @@
 -- The refusals of a closing as the code tests them. Assumes nothing.
-use Prim.Native.Nat.{ℕ, _+_, _*_}
+use Prim.Native.Nat.{ℕ}
 use mathlib.Core.Path.{_≡_, refl, sym}
 use mathlib.Core.Bool.{Bool, true, false, not}
 use mathlib.Core.List.{[], _∷_}
 use borrow.Author.Tests.{eqb-true}
 use lib.Dec.{eqb}
 use Rattle.lists.specs.Choice.{if_then_else_}
-use Rattle.lists.specs.Refusals.{firstOf, first-head}
+use Rattle.lists.specs.Refusals.{first-head}
 use Rattle.record.specs.Book.{Book}
 use Rattle.record.specs.Stored.{figures, planOf}
 use Rattle.record.specs.Sound.{sound}
@@ -15,21 +15,18 @@ use Rattle.record.specs.CalledLaws.{number-sound}
 use Rattle.record.specs.declared.Record.{Record}
 use Rattle.record.specs.declared.Terms.{Terms}
 use Rattle.record.specs.declared.Counts.{Counts}
-use Rattle.closing_rules.specs.Closing.{closingLength, closingRefusal, closingRule}
-
-unfoldable pub ownRefusal : ℕ → ℕ → ℕ → ℕ → ℕ
-ownRefusal n m month size = if not (eqb size (n * m + 3 * n + 2 * m)) then 2 else if eqb month 0 then 13 else 0
+use Rattle.closing_rules.specs.Closing.{closingLength, closingNumber, closingRefusal, closingRule}
 
 -- on a stored record, its terms and counts being read apart
 pub record-refusal : (r : Record) {t : Terms} {n : Counts} (size : ℕ) → t ≡ r .terms → n ≡ r .counts → sound (figures r) ≡ true →
-    ownRefusal (t .generators) (t .consumers) (n .month) size ≡ numberOn (closingRule size) r
-unfolding ownRefusal figures planOf closingRule closingRefusal closingLength firstOf
+    closingNumber (t .generators) (t .consumers) (n .month) size ≡ numberOn (closingRule size) r
+unfolding figures planOf closingRule closingRefusal
 record-refusal r size e f s = rw (e, f) (sym (number-sound (closingRule size) r s))
 
 -- an accepted closing was lent a slice of the stated length
-pub accepted-size : (b : Book) (size : ℕ) → closingRefusal size b ≡ 0 → size ≡ closingLength (b .plan)
-unfolding closingRefusal
-accepted-size b size z = eqb-true _ _ (is-so _ (first-head 1 (not (eqb size (closingLength (b .plan)))) ((13, eqb (b .month) 0) ∷ []) z))
+pub accepted-size : (b : Book) (size : ℕ) → closingRefusal size b ≡ 0 → size ≡ closingLength (b .plan .G) (b .plan .C)
+unfolding closingNumber closingRefusal
+accepted-size b size z = eqb-true _ _ (is-so _ (first-head 1 (not (eqb size (closingLength (b .plan .G) (b .plan .C)))) ((13, eqb (b .month) 0) ∷ []) z))
   where
     is-so : (t : Bool) → not t ≡ false → t ≡ true
     is-so true e = refl

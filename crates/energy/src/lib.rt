@@ -4,9 +4,10 @@ ghost use mathlib.Core.Path.{_≡_};
 ghost use Rattle.energy.specs.Energy.{quarterHour, portionUp, lossOn};
 ghost use Rattle.energy.specs.Requirements.{Portionable};
 
-// Wh in one reading; kW installed or contracted, and so the kW of one row of the schedule.
+// Wh in one reading.
 pub const MOST_READING: u64 = 200_000_000;
 
+// kW installed or contracted, and so the kW of one row of the schedule.
 pub const MOST_CAPACITY: u64 = 400_000;
 
 // Capacity in kW and energy in whole watt-hours are two types: they are never added to each other.

@@ -7,6 +7,8 @@ ghost use Rattle.wheeling_rules.specs.Wheeling.{numbersIn, Done, openingIn, Byt
 
 const RECORD_BYTES: usize = 5752;
 
+// Each array below has a place more than the largest agreement takes: see `host::read_input` and `host::room`.
+
 // A block whose inputs are read: its output is made as numbers, and written where it is accepted.
 fn block_on_inputs(bytes: &mut [u8], entry: &[u32], exit: &[u32], output: &mut [u8]) -> u32
     requires { ⌜ length (now bytes) ≡ 5752 ⌝ }

@@ -93,11 +93,11 @@ module _ (r : Record) where
     pairs-few : figures r .plan .G * figures r .plan .C ≤ 128
     pairs-few = mul-le-mul (f .counts .G-high) (f .counts .C-high)
 
-    block-few : blockLength (figures r .plan) < 537
+    block-few : blockLength (figures r .plan .G) (figures r .plan .C) < 537
     unfolding blockLength
     block-few = omega (arith, pairs-few, f .counts .G-high, f .counts .C-high)
 
-    closing-few : closingLength (figures r .plan) < 185
+    closing-few : closingLength (figures r .plan .G) (figures r .plan .C) < 185
     unfolding closingLength
     closing-few = omega (arith, pairs-few, f .counts .G-high, f .counts .C-high)
 
@@ -118,7 +118,7 @@ module _ (r : Record) where
   block-same {entry} {entry′} {exit} {exit′} {size} {size′} x y z =
       let G = figures r .plan .G in
       let C = figures r .plan .C in
-      let L = blockLength (figures r .plan) in
+      let L = blockLength (figures r .plan .G) (figures r .plan .C) in
       sized-same (block-sized entry exit size (figures r)) (block-sized entry′ exit′ size′ (figures r))
       (λ f s.
       let most = block-few f in
@@ -133,7 +133,7 @@ module _ (r : Record) where
       sized-same (closing-sized size (figures r)) (closing-sized size′ (figures r))
       (λ f s.
       let most = closing-few f in
-      let u : size ≡ size′ = few z (⊎-elim (λ (t : size ≡ closingLength (figures r .plan)). inl (omega arith)) (λ t. inr (omega arith)) s) in
+      let u : size ≡ size′ = few z (⊎-elim (λ (t : size ≡ closingLength (figures r .plan .G) (figures r .plan .C)). inl (omega arith)) (λ t. inr (omega arith)) s) in
       λ i. closingRule (u i))
 
   -- an accepted call's output has the stated length

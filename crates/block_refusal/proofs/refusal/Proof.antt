@@ -1,6 +1,7 @@
 -- `block_refusal::refusal` meets its contract: the tests are those of refusals 10 to 12, in their order, where 2 does not apply.
 use mathlib.Core.Path.{sym}
-use Rattle.block_rules.specs.Refusals.{own-misfit, own-number}
+use Rattle.block_rules.specs.Block.{blockLength}
+use Rattle.block_rules.specs.Refusals.{number-misfit, number-fit}
 use native.Mathlib.Nat.{mul-le-mul}
 use native.Mathlib.Omega.{arith}
 use borrow.Author.Needs.{needs}
@@ -35,12 +36,14 @@ first-requires-3 : tie.Need-first-requires-3
 first-requires-3 c κs = search needs
 
 returns : tie.Need-returns
+unfolding blockLength
 returns c = let tested = c .before .before .before .before .before in
-    own-number _ _ _ _ _ _ _ (tested .before .before .if1 .taken) (tested .before .any-over .ensures) (tested .any-over2 .ensures)
+    number-fit _ _ _ _ _ _ _ (tested .before .before .if1 .taken) (tested .before .any-over .ensures) (tested .any-over2 .ensures)
     (c .before .before .before .first .ensures) (c .before .first2 .ensures) (c .first3 .ensures)
 
 returns-2 : tie.Need-returns-2
-returns-2 c = sym (own-misfit _ _ _ _ _ _ _ (c .if1 .left))
+unfolding blockLength
+returns-2 c = sym (number-misfit _ _ _ _ _ _ _ (c .if1 .left))
 
 pub refusal-spec : {M : Type 1} → statement M
 refusal-spec =

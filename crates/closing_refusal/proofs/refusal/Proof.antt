@@ -2,7 +2,8 @@
 use mathlib.Core.Path.{_∙_}
 use native.Mathlib.Nat.{mul-le-mul}
 use native.Mathlib.Omega.{arith}
-use Rattle.closing_steps.specs.Refusals.{ownRefusal}
+use Rattle.lists.specs.Refusals.{firstOf}
+use Rattle.closing_rules.specs.Closing.{closingLength, closingNumber}
 use borrow.Author.Needs.{needs}
 use Rattle.closing_refusal.proofs.refusal.Statement.{statement}
 use Rattle.closing_refusal.proofs.refusal.Tie as tie
@@ -29,7 +30,7 @@ first-requires-2 : tie.Need-first-requires-2
 first-requires-2 c κs = search needs
 
 returns : tie.Need-returns
-unfolding ownRefusal
+unfolding closingNumber closingLength firstOf
 returns c = c .first2 .ensures ∙ rw (c .before .first .ensures)
 
 pub refusal-spec : {M : Type 1} → statement M
