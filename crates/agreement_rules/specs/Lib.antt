@@ -8,3 +8,4 @@ pub mod Refusing
 pub mod RefusingLaws
 pub mod Storing
 pub mod StoringLaws
+pub mod OpenedOn

@@ -23,7 +23,7 @@ use Rattle.unit.specs.Calls.{block, closing, ruleOf, bookAfter, BookAnswer, boo
 use Rattle.unit.specs.AgreementA.{agreementA, scheduleA}
 use Rattle.unit.specs.BenchCases.{bench-cases}
 use Rattle.report_rules.specs.Display.{blocks, calls, firstRefused}
-use Rattle.opening.specs.OpenedOn.{OpenedOn}
+use Rattle.agreement_rules.specs.OpenedOn.{OpenedOn}
 use Rattle.opening.specs.OpenedOnLaws.{opened-back}
 use Rattle.month.specs.Carried.{Holds, Carried, Ready, answered}
 use Rattle.month.specs.CarriedLaws.{carried-on, carried-none, carried-then, carried-stop, carried-ready}

@@ -1,2 +1,1 @@
-pub mod OpenedOn
 pub mod OpenedOnLaws

@@ -11,7 +11,7 @@ use Rattle.layout_rules.specs.LayoutLaws.{record-of-bytes}
 use Rattle.agreement_rules.specs.Opening.{Opening, openingRefusal, opened, Opened}
 use Rattle.agreement_rules.specs.OpeningLaws.{accepted-permitted, opened-facts}
 use Rattle.agreement_rules.specs.StoringLaws.{opening-accepted}
-use Rattle.opening.specs.OpenedOn.{OpenedOn}
+use Rattle.agreement_rules.specs.OpenedOn.{OpenedOn}
 
 -- the record of an accepted opening, read back from the bytes
 pub opened-back : {o : Opening} {bytes bytes′ : List ℕ} {n : ℕ} {r : Record} → OpenedOn o bytes n bytes′ → n ≡ 0 → r ≡ recordOf (decode 8 719 bytes′) → Opened o 0 r

@@ -11,7 +11,7 @@ ghost use Rattle.record.specs.Words.{words};
 ghost use Rattle.agreement_rules.specs.Opening.{asked, opened, Opened, Permitted};
 ghost use Rattle.agreement_rules.specs.Reading.{Threes};
 ghost use Rattle.agreement_rules.specs.Storing.{agreedFrom, linksFrom, firstSchedule};
-ghost use Rattle.opening.specs.OpenedOn.{OpenedOn};
+ghost use Rattle.agreement_rules.specs.OpenedOn.{OpenedOn};
 
 fn agreed_from(n: usize, list: &[u32]) -> record::Agreed
     requires { ⌜ Threes (now list) n 0 ⌝ }

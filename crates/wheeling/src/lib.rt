@@ -1,9 +1,8 @@
 // The four calls of a C host. Every list is bytes, low byte first: 4 a number in the inputs, 8 in the outputs and in the record.
 ghost use mathlib.Core.Path.{_≡_};
 ghost use lib.ListN.{length};
-ghost use Rattle.layout_rules.specs.OnBytes.{recordIn};
-ghost use Rattle.block_rules.specs.Block.{Blocked};
-ghost use Rattle.wheeling_rules.specs.Wheeling.{numbersIn, Done, openingIn, ByteOpened, ByteScheduled, ByteBlocked, ByteClosed};
+ghost use Rattle.block_rules.specs.Block.{blockRule};
+ghost use Rattle.wheeling_rules.specs.Wheeling.{numbersIn, ByRule, openingIn, ByteOpened, ByteScheduled, ByteBlocked, ByteClosed};
 
 const RECORD_BYTES: usize = 5752;
 
@@ -12,7 +11,7 @@ const RECORD_BYTES: usize = 5752;
 // A block whose inputs are read: its output is made as numbers, and written where it is accepted.
 fn block_on_inputs(bytes: &mut [u8], entry: &[u32], exit: &[u32], output: &mut [u8]) -> u32
     requires { ⌜ length (now bytes) ≡ 5752 ⌝ }
-    ensures { λ r. ⌜ Done (Blocked (recordIn (now (bytes .entry))) (now (entry .entry)) (now (exit .entry)) (numbersIn 8 (now (output .entry)))) (now (bytes .entry)) (now (output .entry)) r (now (bytes .exit)) (now (output .exit)) ⌝ }
+    ensures { λ r. ⌜ ByRule (blockRule (now (entry .entry)) (now (exit .entry)) (length (numbersIn 8 (now (output .entry))))) (now (bytes .entry)) (now (output .entry)) r (now (bytes .exit)) (now (output .exit)) ⌝ }
 {
     let mut out = [0u64; 537];
     let n = host::room(output, 537);

@@ -13,27 +13,27 @@ use Rattle.arrays.specs.Bounds.{Moderate}
 use Rattle.codec.specs.Bytes.{encode}
 use Rattle.codec.specs.BytesLaws.{Below}
 use Rattle.record.specs.Book.{Book}
-use Rattle.record.specs.Stored.{stored}
+use Rattle.record.specs.Stored.{figures, stored}
 use Rattle.record.specs.StoredLaws.{figures-stored}
 use Rattle.record.specs.SoundLaws.{Facts, facts-cut}
 use Rattle.record.specs.Words.{words}
-use Rattle.record.specs.Called.{Called}
+use Rattle.record.specs.Called.{Rule, numberOn, Called}
 use Rattle.record.specs.CalledLaws.{stored-number, stored-record, stored-output}
 use Rattle.record.specs.declared.Record.{Record}
-use Rattle.record.specs.declared.Answer.{Answer}
 use Rattle.layout_rules.specs.LayoutLaws.{bytes-of-stored, record-of-bytes}
 use Rattle.agreement_rules.specs.Opening.{Opening, openingRefusal, opened, Opened, Permitted}
+use Rattle.agreement_rules.specs.OpenedOn.{OpenedOn}
 use Rattle.agreement_rules.specs.OpeningLaws.{permitted-accepted}
-use Rattle.agreement_rules.specs.Schedule.{scheduleRule, Scheduled}
+use Rattle.agreement_rules.specs.Schedule.{scheduleRule}
 use Rattle.block_rules.specs.Block.{blockRule}
 use Rattle.block_rules.specs.Accepted.{block-output-moderate}
 use Rattle.closing_rules.specs.Closing.{closingRule}
 use Rattle.closing_steps.specs.RoomLaws.{closing-output-moderate}
 use Rattle.unit.specs.Calls.{Call, schedule, block, closing, ruleOf, next, bookAfter, bookAnswers}
-use Rattle.unit.specs.Trace.{Ask, askSchedule, askBlock, askClosing, callOf, Given, Done, Trace, trace-none, trace-one, lastRecord}
-use Rattle.unit.specs.Demand3Proof.{Kept, next-kept, opened-kept, demand-3, given, every-opening}
+use Rattle.unit.specs.Trace.{Ask, callOf, Given, Done, Trace, trace-none, trace-one, lastRecord}
+use Rattle.unit.specs.Demand3Proof.{Kept, next-kept, opened-kept, demand-3}
 use Rattle.layout_rules.specs.OnBytes.{recordIn, bytesAfter}
-use Rattle.wheeling_rules.specs.Wheeling.{recordBytes, numbersIn, Stored, OnBytes, openingIn, ByteOpened}
+use Rattle.wheeling_rules.specs.Wheeling.{recordBytes, numbersIn, ByRule, OnBytes, openingIn, ByteOpened, CalledOnBytes}
 use Rattle.wheeling_rules.specs.ReadingLaws.{numbers-encode, numbers-none, no-bytes}
 use Rattle.wheeling_book.specs.ByteTrace.{ByteAsk, byteSchedule, byteBlock, byteClosing, askIn, bytesLent, ByteGiven, givenIn, ByteDone, ByteTrace, bytes-none, bytes-one, lastBytes}
 use Rattle.wheeling_book.specs.ByteDemand3.{ByteMatch, ByteMatches, match-none, match-one, callsIn, ByteDemand3, ByteClaim}
@@ -63,54 +63,48 @@ module _ (b : Book) (f : Facts b) {s : List ℕ} (q : s ≡ encode 8 (words (sto
 
 -- ---- one call, on the bytes s of the record stored of book b
 
-module _ (o : Opening) (b : Book) (h : Kept o b) (k : Call) {s lent s′ lent′ out : List ℕ} {x : Answer} {n : ℕ} (q : s ≡ encode 8 (words (stored b)))
-    (c : Called (ruleOf k) (recordIn s) (numbersIn 8 lent) (x .number) (x .after) out) (t : Stored x out s lent n s′ lent′) where
-  on-book : Called (ruleOf k) (stored b) (numbersIn 8 lent) (x .number) (x .after) out
-  on-book = subst (λ (r : Record). Called (ruleOf k) r (numbersIn 8 lent) (x .number) (x .after) out) (record-in b (h .facts) q) c
+module _ (o : Opening) (b : Book) (h : Kept o b) (k : Call) {s lent s′ lent′ : List ℕ} {n : ℕ} (q : s ≡ encode 8 (words (stored b))) (c : ByRule (ruleOf k) s lent n s′ lent′) where
+  in-record : recordIn s ≡ stored b
+  in-record = record-in b (h .facts) q
+
+  figures-are : figures (recordIn s) ≡ b
+  figures-are = ap figures in-record ∙ figures-stored b (facts-cut b (h .facts))
+
+  number-on : n ≡ numberOn (ruleOf k) (stored b)
+  number-on = c .number-is ∙ ap (numberOn (ruleOf k)) in-record
 
   number-is : n ≡ ruleOf k .refusal b
-  number-is = t .number-is ∙ on-book .number-is ∙ stored-number (ruleOf k) b (h .facts)
-
-  after-is : x .after ≡ stored (next b k)
-  unfolding next
-  after-is = on-book .record-is ∙ stored-record (ruleOf k) b (h .facts)
-
-  out-is : out ≡ (if eqb (ruleOf k .refusal b) 0 then ruleOf k .output b else numbersIn 8 lent)
-  out-is = on-book .output-is ∙ stored-output (ruleOf k) b (h .facts) (numbersIn 8 lent)
+  number-is = number-on ∙ stored-number (ruleOf k) b (h .facts)
 
   bytes-are : s′ ≡ encode 8 (words (stored (next b k)))
   unfolding bytesAfter next
-  bytes-are = go (eqb (ruleOf k .refusal b) 0) (subst (λ (m : ℕ). s′ ≡ bytesAfter m (words (x .after)) s) number-is (t .record-is)) after-is
+  bytes-are =
+      go (eqb (ruleOf k .refusal b) 0)
+      (c .record-is ∙ (λ i. bytesAfter (number-is i) (words (stored (ruleOf k .after (figures-are i)))) s))
     where
-      go : (u : Bool) → s′ ≡ (if u then encode 8 (words (x .after)) else s) → x .after ≡ stored (if u then ruleOf k .after b else b) →
-          s′ ≡ encode 8 (words (stored (if u then ruleOf k .after b else b)))
-      go true p e = p ∙ ap (λ (r : Record). encode 8 (words r)) e
-      go false p e = p ∙ q
+      go : (u : Bool) → s′ ≡ (if u then encode 8 (words (stored (ruleOf k .after b))) else s) → s′ ≡ encode 8 (words (stored (if u then ruleOf k .after b else b)))
+      go true p = p
+      go false p = p ∙ q
 
   output-is : lent′ ≡ bytesAfter (ruleOf k .refusal b) (ruleOf k .output b) lent
-  unfolding bytesAfter
-  output-is = go (eqb (ruleOf k .refusal b) 0) (subst (λ (m : ℕ). lent′ ≡ bytesAfter m out lent) number-is (t .output-is)) out-is
-    where
-      go : (u : Bool) → lent′ ≡ (if u then encode 8 out else lent) → out ≡ (if u then ruleOf k .output b else numbersIn 8 lent) →
-          lent′ ≡ (if u then encode 8 (ruleOf k .output b) else lent)
-      go true p e = p ∙ ap (encode 8) e
-      go false p e = p
+  output-is = c .output-is ∙ (λ i. bytesAfter (number-is i) (ruleOf k .output (figures-are i)) lent)
 
-  numbers-out : numbersIn 8 lent′ ≡ out
+  numbers-out : numbersIn 8 lent′ ≡ (if eqb (ruleOf k .refusal b) 0 then ruleOf k .output b else numbersIn 8 lent)
   unfolding bytesAfter
-  numbers-out = go (eqb (ruleOf k .refusal b) 0) refl output-is out-is
+  numbers-out = go (eqb (ruleOf k .refusal b) 0) refl output-is
     where
       go : (u : Bool) → eqb (ruleOf k .refusal b) 0 ≡ u → lent′ ≡ (if u then encode 8 (ruleOf k .output b) else lent) →
-          out ≡ (if u then ruleOf k .output b else numbersIn 8 lent) → numbersIn 8 lent′ ≡ out
-      go true z p e = ap (numbersIn 8) p ∙ numbers-encode (ruleOf k .output b) (output-below b (h .facts) k (eqb-true (ruleOf k .refusal b) 0 z)) ∙ sym e
-      go false z p e = ap (numbersIn 8) p ∙ sym e
+          numbersIn 8 lent′ ≡ (if u then ruleOf k .output b else numbersIn 8 lent)
+      go true z p = ap (numbersIn 8) p ∙ numbers-encode (ruleOf k .output b) (output-below b (h .facts) k (eqb-true (ruleOf k .refusal b) 0 z))
+      go false z p = ap (numbersIn 8) p
 
   numbers-called : Called (ruleOf k) (stored b) (numbersIn 8 lent) n (recordIn s′) (numbersIn 8 lent′)
+  unfolding next
   numbers-called =
       record {
-        number-is = t .number-is ∙ on-book .number-is;
-        record-is = record-in (next b k) (next-kept o b k h .facts) bytes-are ∙ sym after-is ∙ on-book .record-is;
-        output-is = numbers-out ∙ on-book .output-is;
+        number-is = number-on;
+        record-is = record-in (next b k) (next-kept o b k h .facts) bytes-are ∙ sym (stored-record (ruleOf k) b (h .facts));
+        output-is = numbers-out ∙ sym (stored-output (ruleOf k) b (h .facts) (numbersIn 8 lent));
       }
 
 -- what one call gives, by the book
@@ -124,35 +118,27 @@ module _ (o : Opening) (b : Book) (h : Kept o b) {s : List ℕ} (q : s ≡ encod
   unfolding ByteDone Done askIn givenIn callOf bytesLent ruleOf
   one-call (byteSchedule kws ranks) w (d, e) =
       let k = schedule (numbersIn 4 kws) (numbersIn 4 ranks) in
-      let got = d .whole (whole-record b (h .facts) q) in
-      let a = got .0 in
-      let c : Called (ruleOf k) (recordIn s) (numbersIn 8 []) (a .number) (a .after) [] = rw numbers-none (got .1 .1 .0) in
-      let t : Stored a [] s [] (w .number) (w .bytes) [] =
-      record { number-is = got .1 .1 .1 .number-is; record-is = got .1 .1 .1 .record-is; output-is = no-bytes (w .number) } in
+      let c = d .whole (whole-record b (h .facts) q) in
       record {
-        done = (rw numbers-none at (numbers-called o b h k q c t), ap (numbersIn 8) e ∙ numbers-none);
-        matches = record { number-is = number-is o b h k q c t; output-is = e ∙ output-is o b h k q c t };
-        left = bytes-are o b h k q c t;
+        done = (rw numbers-none at (numbers-called o b h k q c), ap (numbersIn 8) e ∙ numbers-none);
+        matches = record { number-is = number-is o b h k q c; output-is = e ∙ output-is o b h k q c };
+        left = bytes-are o b h k q c;
       }
   one-call (byteBlock entry exit lent) w d =
       let k = block (numbersIn 4 entry) (numbersIn 4 exit) (length (numbersIn 8 lent)) in
-      let got = d .whole (whole-record b (h .facts) q) in
-      let c = got .1 .1 .0 in
-      let t = got .1 .1 .1 in
+      let c = d .whole (whole-record b (h .facts) q) in
       record {
-        done = numbers-called o b h k q c t;
-        matches = record { number-is = number-is o b h k q c t; output-is = output-is o b h k q c t };
-        left = bytes-are o b h k q c t;
+        done = numbers-called o b h k q c;
+        matches = record { number-is = number-is o b h k q c; output-is = output-is o b h k q c };
+        left = bytes-are o b h k q c;
       }
   one-call (byteClosing lent) w d =
       let k = closing (length (numbersIn 8 lent)) in
-      let got = d .whole (whole-record b (h .facts) q) in
-      let c = got .1 .1 .0 in
-      let t = got .1 .1 .1 in
+      let c = d .whole (whole-record b (h .facts) q) in
       record {
-        done = numbers-called o b h k q c t;
-        matches = record { number-is = number-is o b h k q c t; output-is = output-is o b h k q c t };
-        left = bytes-are o b h k q c t;
+        done = numbers-called o b h k q c;
+        matches = record { number-is = number-is o b h k q c; output-is = output-is o b h k q c };
+        left = bytes-are o b h k q c;
       }
 
 -- ---- a list of calls
@@ -209,62 +195,60 @@ pub byte-demand-3 : ByteClaim
 unfolding bytesAfter
 byte-demand-3 G C rate cycle gone generators pairs p before l number s₀ start =
     let o = openingIn G C rate cycle gone generators pairs in
-    let got = start .whole l in
-    let a = got .0 in
-    let given : Opened o (a .number) (a .after) = got .1 .1 .0 in
-    let z = permitted-accepted o p in
-    let accepted : number ≡ 0 = got .1 .1 .1 .number-is ∙ given .number-is ∙ z in
-    let after : a .after ≡ stored (opened o) = given .record-is ∙ rw (eq-eqb (openingRefusal o) 0 z) in
-    let left : s₀ ≡ encode 8 (words (a .after)) = rw accepted at (got .1 .1 .1 .record-is) in
-    let q : s₀ ≡ encode 8 (words (stored (opened o))) = left ∙ ap (λ (r : Record). encode 8 (words r)) after in
+    let opened-so = start .whole l in
+    let accepted : number ≡ 0 = opened-so .number-is ∙ permitted-accepted o p in
+    let q : s₀ ≡ encode 8 (words (stored (opened o))) = rw accepted at (opened-so .record-is) in
     (accepted, λ asks ws t. (demand o p s₀ q asks ws t, λ n. demand o p s₀ q (take n asks) (take n ws) (trace-take n t)))
 
 -- ---- no list of calls is ruled out
 
--- what a call on bytes gives, where the record is whole or not, by what the call on numbers gives
-abbrev picked : (whole : Bool) (refusal : ℕ) (a : Answer) (out s lent : List ℕ) → ByteGiven
-picked true refusal a out s lent = record { number = a .number; bytes = bytesAfter (a .number) (words (a .after)) s; out = bytesAfter (a .number) out lent }
-picked false refusal a out s lent = record { number = refusal; bytes = s; out = lent }
+-- what a call on bytes gives, where the record is whole or not: the number, and the numbers for record and output where it is 0
+abbrev picked : (whole : Bool) (refusal number : ℕ) (after out s lent : List ℕ) → ByteGiven
+picked true refusal number after out s lent = record { number = number; bytes = bytesAfter number after s; out = bytesAfter number out lent }
+picked false refusal number after out s lent = record { number = refusal; bytes = s; out = lent }
 
-module _ (refusal : ℕ) (a : Answer) (out s lent : List ℕ) where
+module _ (refusal number : ℕ) (after out s lent : List ℕ) where
   givenBytes : ByteGiven
-  givenBytes = picked (eqb (length s) recordBytes) refusal a out s lent
+  givenBytes = picked (eqb (length s) recordBytes) refusal number after out s lent
 
-  given-bytes : (ensured : Answer → List ℕ → Type 0) → ensured a out → OnBytes refusal ensured s lent (givenBytes .number) (givenBytes .bytes) (givenBytes .out)
+  given-bytes : (Whole : ℕ → List ℕ → List ℕ → Type 0) → Whole number (bytesAfter number after s) (bytesAfter number out lent) →
+      OnBytes refusal (Whole (givenBytes .number) (givenBytes .bytes) (givenBytes .out)) s lent (givenBytes .number) (givenBytes .bytes) (givenBytes .out)
   unfolding givenBytes
-  given-bytes ensured h = go (eqb (length s) recordBytes) refl
+  given-bytes Whole h = go (eqb (length s) recordBytes) refl
     where
-      go : (t : Bool) → eqb (length s) recordBytes ≡ t → let w = picked t refusal a out s lent in OnBytes refusal ensured s lent (w .number) (w .bytes) (w .out)
-      go true e =
-          record {
-            whole = λ l. (a, (out, (h, record { number-is = refl; record-is = refl; output-is = refl })));
-            other = λ ne. absurd (ne (eqb-true (length s) recordBytes e));
-          }
+      go : (t : Bool) → eqb (length s) recordBytes ≡ t → let w = picked t refusal number after out s lent in OnBytes refusal (Whole (w .number) (w .bytes) (w .out)) s lent (w .number) (w .bytes) (w .out)
+      go true e = record { whole = λ l. h; other = λ ne. absurd (ne (eqb-true (length s) recordBytes e)) }
       go false e = record { whole = λ l. absurd (eqb-false (length s) recordBytes e l); other = λ ne. (refl, (refl, refl)) }
 
 -- without an output
-given-silent : (refusal : ℕ) (a : Answer) (s : List ℕ) → givenBytes refusal a [] s [] .out ≡ []
+given-silent : (refusal number : ℕ) (after s : List ℕ) → givenBytes refusal number after [] s [] .out ≡ []
 unfolding givenBytes
-given-silent refusal a s = go (eqb (length s) recordBytes)
+given-silent refusal number after s = go (eqb (length s) recordBytes)
   where
-    go : (t : Bool) → picked t refusal a [] s [] .out ≡ []
-    go true = sym (no-bytes (a .number))
+    go : (t : Bool) → picked t refusal number after [] s [] .out ≡ []
+    go true = sym (no-bytes number)
     go false = refl
 
+-- by a rule
+module _ (rule : Rule) (s lent : List ℕ) where
+  byRule : ByteGiven
+  byRule = givenBytes 1 (numberOn rule (recordIn s)) (words (stored (rule .after (figures (recordIn s))))) (rule .output (figures (recordIn s))) s lent
+
+  by-rule : CalledOnBytes rule s lent (byRule .number) (byRule .bytes) (byRule .out)
+  unfolding byRule
+  by-rule = given-bytes 1 _ _ _ s lent (λ n s′ lent′. ByRule rule s lent n s′ lent′) (record { number-is = refl; record-is = refl; output-is = refl })
+
 byte-given : (s : List ℕ) (a : ByteAsk) → (w : ByteGiven) × ByteDone s a w
-unfolding ByteDone Done
+unfolding ByteDone byRule scheduleRule
 byte-given s (byteSchedule kws ranks) =
-    let g = given (recordIn s) (askSchedule (numbersIn 4 kws) (numbersIn 4 ranks)) in
-    let w = givenBytes 1 (g .0 .answer) [] s [] in
-    let ensured : Answer → List ℕ → Type 0 = λ a out. Scheduled (recordIn s) (numbersIn 4 kws) (numbersIn 4 ranks) a in
-    let none = given-silent 1 (g .0 .answer) s in
-    (w, (subst (λ (l : List ℕ). OnBytes 1 ensured s [] (w .number) (w .bytes) l) none (given-bytes 1 (g .0 .answer) [] s [] ensured (g .1 .0)), none))
+    let rule = scheduleRule (numbersIn 4 kws) (numbersIn 4 ranks) in
+    let w = byRule rule s [] in
+    let none : w .out ≡ [] = given-silent 1 _ _ s in
+    (w, (subst (λ (l : List ℕ). CalledOnBytes rule s [] (w .number) (w .bytes) l) none (by-rule rule s []), none))
 byte-given s (byteBlock entry exit lent) =
-    let g = given (recordIn s) (askBlock (numbersIn 4 entry) (numbersIn 4 exit) (numbersIn 8 lent)) in
-    (givenBytes 1 (g .0 .answer) (g .0 .out) s lent, given-bytes 1 (g .0 .answer) (g .0 .out) s lent _ (g .1))
-byte-given s (byteClosing lent) =
-    let g = given (recordIn s) (askClosing (numbersIn 8 lent)) in
-    (givenBytes 1 (g .0 .answer) (g .0 .out) s lent, given-bytes 1 (g .0 .answer) (g .0 .out) s lent _ (g .1))
+    let rule = blockRule (numbersIn 4 entry) (numbersIn 4 exit) (length (numbersIn 8 lent)) in
+    (byRule rule s lent, by-rule rule s lent)
+byte-given s (byteClosing lent) = let rule = closingRule (length (numbersIn 8 lent)) in (byRule rule s lent, by-rule rule s lent)
 
 pub every-byte-list : (s : List ℕ) (asks : List ByteAsk) → (ws : List ByteGiven) × ByteTrace s asks ws
 every-byte-list s [] = ([], bytes-none)
@@ -275,8 +259,11 @@ every-byte-list s (a ∷ as′) =
 
 pub every-byte-opening : (o : Opening) (s : List ℕ) → (number : ℕ) × (s′ : List ℕ) × ByteOpened o s number s′
 every-byte-opening o s =
-    let g = every-opening o in
-    let a : Answer = record { number = g .0; after = g .1 } in
-    let w = givenBytes 2 a [] s [] in
-    let ensured : Answer → List ℕ → Type 0 = λ a out. Opened o (a .number) (a .after) in
-    (w .number, w .bytes, subst (λ (l : List ℕ). OnBytes 2 ensured s [] (w .number) (w .bytes) l) (given-silent 2 a s) (given-bytes 2 a [] s [] ensured (g .2)))
+    let n = openingRefusal o in
+    let after = words (stored (opened o)) in
+    let w = givenBytes 2 n after [] s [] in (
+      w .number,
+      w .bytes,
+      subst (λ (l : List ℕ). OnBytes 2 (OpenedOn o s (w .number) (w .bytes)) s [] (w .number) (w .bytes) l) (given-silent 2 n after s)
+          (given-bytes 2 n after [] s [] (λ n s′ lent′. OpenedOn o s n s′) (record { number-is = refl; record-is = refl })),
+    )

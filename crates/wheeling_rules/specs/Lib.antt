@@ -2,4 +2,3 @@ pub mod Wheeling
 pub mod Reading
 pub mod ReadingLaws
 pub mod WheelingLaws
-pub mod ByRule

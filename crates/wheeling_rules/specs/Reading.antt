@@ -4,8 +4,6 @@ use mathlib.Core.List.{List}
 use mathlib.Core.Logic.{_⊎_}
 use mathlib.Core.Path.{_≡_}
 use lib.ListN.{length, take}
-use Rattle.record.specs.Words.{words}
-use Rattle.record.specs.declared.Answer.{Answer}
 use Rattle.layout_rules.specs.OnBytes.{bytesAfter}
 use Rattle.wheeling_rules.specs.Wheeling.{numbersIn}
 
@@ -28,16 +26,7 @@ pub record Room (lent : List ℕ) (k n : ℕ) : Type 0 where
   pub fits : n < k → length lent ≡ 8 * n
   pub alike : AlikeSize k n (length (numbersIn 8 lent))
 
--- an accepted call's record is stored
-pub record Kept (a : Answer) (bytes : List ℕ) (number : ℕ) (bytes′ : List ℕ) : Type 0 where
-  pub number-is : number ≡ a .number
-  pub record-is : bytes′ ≡ bytesAfter number (words (a .after)) bytes
-
--- a call was made on the record that the bytes hold: it gave an answer, which is kept
-abbrev pub Made : (Answer → Type 0) → (bytes : List ℕ) (number : ℕ) (bytes′ : List ℕ) → Type 0
-Made ensured bytes number bytes′ = (a : Answer) × (ensured a × Kept a bytes number bytes′)
-
--- and its output written
+-- the output of a call is written where it is accepted
 pub record Written (refusal : ℕ) (out lent : List ℕ) (number : ℕ) (lent′ : List ℕ) : Type 0 where
   pub number-is : number ≡ refusal
   pub output-is : lent′ ≡ bytesAfter refusal out lent

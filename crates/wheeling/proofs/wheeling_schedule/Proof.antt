@@ -2,7 +2,7 @@
 use borrow.Author.Needs.{needs}
 use native.Mathlib.Omega.{arith}
 use lib.ListN.{length-take}
-use Rattle.wheeling_rules.specs.WheelingLaws.{made, schedule-on-bytes, on-other}
+use Rattle.wheeling_rules.specs.WheelingLaws.{schedule-on-bytes, on-other}
 use Rattle.wheeling.proofs.wheeling_schedule.Statement.{statement}
 use Rattle.wheeling.proofs.wheeling_schedule.Tie as tie
 
@@ -41,8 +41,7 @@ returns c =
     let called = c .before .before in
     let second = called .before .before .before .before .before in
     let first = second .before .before .before in
-    let m = made (called .schedule-on .ensures) in
-    schedule-on-bytes _ _ (first .before .before .if1 .taken) (first .read-input .ensures .alike) (second .read-input2 .ensures .alike) (m .1 .0) (m .1 .1)
+    schedule-on-bytes _ _ (first .before .before .if1 .taken) (first .read-input .ensures .alike) (second .read-input2 .ensures .alike) (called .schedule-on .ensures)
 
 returns-2 : tie.Need-returns-2
 returns-2 c = on-other (c .if1 .left)
