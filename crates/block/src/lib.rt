@@ -26,8 +26,8 @@ fn refusal_on(s: &[u8], entry: &[u32], exit: &[u32], size: usize) -> u32
     }
 }
 
-// One block on the record that the bytes hold; called by this repository's crates only, which meet what it requires. The lists are made in
-// the slice of the output, and the totals are raised in the bytes: nothing is copied on the way.
+// One block on the record that the bytes hold. The lists are made in the slice of the output, and the totals are raised in the bytes: nothing
+// is copied on the way.
 pub fn block_on(s: &mut [u8], entry: &[u32], exit: &[u32], out: &mut [u64]) -> u32
     requires { ⌜ length (now s) ≡ 5752 ⌝ }
     ensures { λ r. ⌜ CalledOn (blockRule (now (entry .entry)) (now (exit .entry)) (length (now (out .entry)))) (now (s .entry)) (now (out .entry)) r (now (s .exit)) (now (out .exit)) ⌝ }

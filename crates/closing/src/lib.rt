@@ -26,8 +26,8 @@ fn refusal_on(s: &[u8], size: usize) -> u32
     }
 }
 
-// Closes a month of the record that the bytes hold; called by this repository's crates only, which meet what it requires. The lists are made
-// in the slice of the output, and the totals are entered in the bytes from there.
+// Closes a month of the record that the bytes hold. The lists are made in the slice of the output, and the totals are entered in the bytes
+// from there.
 pub fn close_on(s: &mut [u8], out: &mut [u64]) -> u32
     requires { ⌜ length (now s) ≡ 5752 ⌝ }
     ensures { λ r. ⌜ CalledOn (closingRule (length (now (out .entry)))) (now (s .entry)) (now (out .entry)) r (now (s .exit)) (now (out .exit)) ⌝ }
