@@ -1,5 +1,5 @@
 -- The tests of the parts of a stored record, as the code goes through them, and that they make up the test of the whole. Assumes nothing.
-use Prim.Native.Nat.{ℕ, zero, suc, _+_, _-_, _*_, _≤_, _<_}
+use Prim.Native.Nat.{ℕ, zero, suc, _+_, _-_, _*_, _≤_, _<_, min}
 use mathlib.Core.Path.{_≡_, refl, sym, ap, ap₂, _∙_}
 use mathlib.Core.Bool.{Bool, true, false, _&&_, _||_}
 use mathlib.Core.List.{List, [], _∷_}
@@ -8,7 +8,7 @@ use native.Mathlib.Omega.{arith}
 use lib.Bits.{bitOr, or-zero-l, or-add-and, and-le-r}
 use lib.Dec.{eqb, leb, ltb}
 use lib.ListN.{getD}
-use borrow.Author.Tests.{leb-true, lt-ltb, le-ltb, le-leb, lt-leb, ne-eqb, eqb-true}
+use borrow.Author.Tests.{leb-true, leb-false, lt-ltb, le-ltb, le-leb, lt-leb, ne-eqb, eqb-true}
 use Rattle.lists.specs.Sums.{sum}
 use Rattle.lists.specs.Tests.{all, all-rows, all-same, all-plus, within, within-high, chain-at}
 use Rattle.lists.specs.Pairs.{place, cell}
@@ -44,6 +44,15 @@ generatorTest t G blocks g = generatorSound blocks (ltb g G) (generatorAt t g)
 
 unfoldable pub consumerTest : Consumers → ℕ → ℕ → ℕ → Bool
 consumerTest t C blocks c = consumerSound blocks (ltb c C) (consumerAt t c)
+
+-- within the lower of two is within both
+pub within-both : (t i n : ℕ) → leb t i && leb t n ≡ leb t (min i n)
+within-both t i n = go (leb t i) refl (leb t n) refl
+  where
+    go : (a : Bool) → leb t i ≡ a → (b : Bool) → leb t n ≡ b → a && b ≡ leb t (min i n)
+    go true e true q = sym (le-leb t (min i n) (omega (arith, leb-true t i e, leb-true t n q)))
+    go true e false q = sym (lt-leb t (min i n) (omega (arith, leb-false t n q)))
+    go false e b q = sym (lt-leb t (min i n) (omega (arith, leb-false t i e)))
 
 -- ---- the same read from the lists, as the code does
 

@@ -1,6 +1,5 @@
 // The tests of soundness at one place of what is agreed and scheduled, and of the counts. Tests are joined by & and |, which do not branch.
 ghost use mathlib.Core.Path.{_≡_};
-ghost use Prim.Native.Nat.{min};
 ghost use Rattle.lists.specs.Tests.{within};
 ghost use Rattle.record.specs.Sound.{limit, agreedSound, pairSound};
 ghost use Rattle.sound_items.specs.SoundTests.{countsTest};
@@ -12,12 +11,6 @@ fn limit_at(inside: bool, n: u64) -> u64
     ensures { λ r. ⌜ r ≡ limit inside n ⌝ }
 {
     if inside { n } else { 0 }
-}
-
-fn lower(a: u64, b: u64) -> u64
-    ensures { λ r. ⌜ r ≡ min a b ⌝ }
-{
-    if a < b { a } else { b }
 }
 
 fn in_range(low: u64, high: u64, n: u64) -> bool
@@ -39,13 +32,14 @@ pub fn counts_sound(t: Terms, n: Counts) -> bool
         & (n.month <= n.blocks)
 }
 
+// Within the lower of two capacities is within both.
 pub fn agreed_sound(inside: bool, kind: u64, installed: u64, contracted: u64, total: u64) -> bool
     ensures { λ r. ⌜ r ≡ agreedSound inside kind installed contracted total ⌝ }
 {
     (kind <= limit_at(inside, record::LAST_KIND))
         & (installed <= limit_at(inside, energy::MOST_CAPACITY))
         & (contracted <= limit_at(inside, energy::MOST_CAPACITY))
-        & (total <= lower(installed, contracted))
+        & ((total <= installed) & (total <= contracted))
 }
 
 pub fn pair_sound(inside: bool, link: u64, loss: u64, kw: u64, rank: u64) -> bool
