@@ -36,11 +36,19 @@ pub fn put_at(s: &mut [u8], k: usize, w: u64)
     codec::put8(w, s, k);
 }
 
+// Number `k` of the record raised by w.
+fn sum_at(s: &[u8], k: usize, w: u64) -> u64
+    requires { ⌜ (length (now s) ≡ 5752) × ((k < 719) × (getD (decode 8 719 (now s)) k 0 + w < 18_446_744_073_709_551_616)) ⌝ }
+    ensures { λ r. ⌜ r ≡ getD (decode 8 719 (now (s .entry))) k 0 + w ⌝ }
+{
+    number_at(s, k) + w
+}
+
 // Adds to number `k` of the record where it stands.
 pub fn add_at(s: &mut [u8], k: usize, w: u64)
     requires { ⌜ (length (now s) ≡ 5752) × ((k < 719) × (getD (decode 8 719 (now s)) k 0 + w < 18_446_744_073_709_551_616)) ⌝ }
     ensures { λ _. ⌜ decode 8 719 (now (s .exit)) ≡ set (decode 8 719 (now (s .entry))) k (getD (decode 8 719 (now (s .entry))) k 0 + w) ⌝ }
 {
-    let sum = number_at(s, k) + w;
+    let sum = sum_at(s, k, w);
     put_at(s, k, sum);
 }

@@ -1,13 +1,13 @@
--- `in_place::add_at` meets its contract: the number there is read, and its sum with w written. Assumes nothing.
+-- `in_place::add_at` meets its contract: the sum with w is written where the number stands. Assumes nothing.
+use mathlib.Core.Path.{ap, _∙_}
+use lib.ListN.{set}
+use Rattle.codec.specs.Bytes.{decode}
 use borrow.Author.Needs.{needs}
 use Rattle.in_place.proofs.add_at.Statement.{statement}
 use Rattle.in_place.proofs.add_at.Tie as tie
 
-number-at-requires : tie.Need-number-at-requires
-number-at-requires c κs = search needs
-
-add-sum : tie.Need-add-sum
-add-sum c = search needs
+sum-at-requires : tie.Need-sum-at-requires
+sum-at-requires c κs = search needs
 
 put-at-requires : tie.Need-put-at-requires
 put-at-requires c κs = search needs
@@ -16,7 +16,10 @@ same-length : tie.Need-same-length
 same-length c = search needs
 
 returns : tie.Need-returns
-returns c = rw (← (c .before .before .before .before .number-at .ensures)) (c .before .before .put-at .ensures .0)
+returns c =
+    let summed = c .before .before .before .before in
+    let a = summed .before .before .before .args in
+    c .before .before .put-at .ensures .0 ∙ ap (set (decode 8 719 (a .s .now)) (a .k)) (summed .sum-at .ensures)
 
 pub add-at-spec : {M : Type 1} → statement M
-add-at-spec = tie.close (tie.spec number-at-requires add-sum put-at-requires same-length returns)
+add-at-spec = tie.close (tie.spec sum-at-requires put-at-requires same-length returns)
