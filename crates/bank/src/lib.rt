@@ -3,7 +3,6 @@
 ghost use mathlib.Core.Path.{_≡_};
 ghost use Prim.Native.Nat.{ℕ, _-_, _<_, _≤_};
 ghost use lib.Dec.{eqb};
-ghost use Rattle.lists.specs.Choice.{if_then_else_};
 ghost use Rattle.lists.specs.Tables.{table};
 ghost use Rattle.lists.specs.Pairs.{place};
 ghost use Rattle.energy.specs.Limits.{mostRank};
@@ -42,12 +41,6 @@ pub struct Drawing {
     pub supplied: [u64; 16],
 }
 
-fn if_linked(link: u64, x: u64) -> u64
-    ensures { λ r. ⌜ r ≡ (if eqb link 1 then x else 0) ⌝ }
-{
-    if link == 1 { x } else { 0 }
-}
-
 impl Bank {
     // The most that a balance, or a month's pending, comes to: what one place meters in the life of a unit.
     pub const MOST_ENERGY: u64 = record::MOST_UNIT_BLOCKS * energy::MOST_READING;
@@ -83,7 +76,7 @@ impl Bank {
         let mut stock = [0u64; 8];
         let mut g: usize = 0;
         while g < 8 {
-            stock[g] = if_linked(links[g], self.balance[g]);
+            stock[g] = lists::only_if(links[g] == 1, self.balance[g]);
             g += 1;
         }
         stock

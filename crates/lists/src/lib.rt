@@ -1,4 +1,4 @@
-// Definitions and laws of lists, sums and tests, and two small functions that every call uses.
+// Definitions and laws of lists, sums and tests, and three small functions that the calls use.
 ghost use mathlib.Core.Path.{_≡_};
 ghost use Rattle.lists.specs.Choice.{if_then_else_};
 
@@ -13,4 +13,11 @@ pub fn first(test: bool, number: u32, later: u32) -> u32
     ensures { λ r. ⌜ r ≡ (if test then number else later) ⌝ }
 {
     if test { number } else { later }
+}
+
+// x where the test holds, else 0.
+pub fn only_if(test: bool, x: u64) -> u64
+    ensures { λ r. ⌜ r ≡ (if test then x else 0) ⌝ }
+{
+    if test { x } else { 0 }
 }

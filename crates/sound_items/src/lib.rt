@@ -1,17 +1,10 @@
 // The tests of soundness at one place of what is agreed and scheduled, and of the counts. Tests are joined by & and |, which do not branch.
 ghost use mathlib.Core.Path.{_≡_};
 ghost use Rattle.lists.specs.Tests.{within};
-ghost use Rattle.record.specs.Sound.{limit, agreedSound, pairSound};
+ghost use Rattle.record.specs.Sound.{agreedSound, pairSound};
 ghost use Rattle.sound_items.specs.SoundTests.{countsTest};
 use record::Counts;
 use record::Terms;
-
-// n at a place within the agreement; beyond it only 0 is sound
-fn limit_at(inside: bool, n: u64) -> u64
-    ensures { λ r. ⌜ r ≡ limit inside n ⌝ }
-{
-    if inside { n } else { 0 }
-}
 
 fn in_range(low: u64, high: u64, n: u64) -> bool
     ensures { λ r. ⌜ r ≡ within low high n ⌝ }
@@ -32,22 +25,22 @@ pub fn counts_sound(t: Terms, n: Counts) -> bool
         & (n.month <= n.blocks)
 }
 
-// Within the lower of two capacities is within both.
+// Beyond the agreement only 0 is sound. Within the lower of two capacities is within both.
 pub fn agreed_sound(inside: bool, kind: u64, installed: u64, contracted: u64, total: u64) -> bool
     ensures { λ r. ⌜ r ≡ agreedSound inside kind installed contracted total ⌝ }
 {
-    (kind <= limit_at(inside, record::LAST_KIND))
-        & (installed <= limit_at(inside, energy::MOST_CAPACITY))
-        & (contracted <= limit_at(inside, energy::MOST_CAPACITY))
+    (kind <= lists::only_if(inside, record::LAST_KIND))
+        & (installed <= lists::only_if(inside, energy::MOST_CAPACITY))
+        & (contracted <= lists::only_if(inside, energy::MOST_CAPACITY))
         & ((total <= installed) & (total <= contracted))
 }
 
 pub fn pair_sound(inside: bool, link: u64, loss: u64, kw: u64, rank: u64) -> bool
     ensures { λ r. ⌜ r ≡ pairSound inside link loss kw rank ⌝ }
 {
-    (link <= limit_at(inside, 1))
-        & (loss <= limit_at(inside, record::MOST_LOSS))
+    (link <= lists::only_if(inside, 1))
+        & (loss <= lists::only_if(inside, record::MOST_LOSS))
         & ((link == 1) | (kw == 0))
-        & (limit_at(inside, 1) <= rank)
-        & (rank <= limit_at(inside, record::MOST_RANK))
+        & (lists::only_if(inside, 1) <= rank)
+        & (rank <= lists::only_if(inside, record::MOST_RANK))
 }

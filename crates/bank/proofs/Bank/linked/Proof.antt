@@ -19,20 +19,20 @@ abbrev μ-loop : tie.MeasureT-loop
 loop-holds : tie.Need-loop-holds Inv-loop μ-loop
 loop-holds c = fill-start (search needs)
 
-mul-if-linked : tie.Need-mul-if-linked Inv-loop μ-loop
-mul-if-linked c = search needs
+mul-only-if : tie.Need-mul-only-if Inv-loop μ-loop
+mul-only-if c = search needs
 
-array-read-if-linked : tie.Need-array-read-if-linked Inv-loop μ-loop
-array-read-if-linked c = search needs
+array-read-only-if : tie.Need-array-read-only-if Inv-loop μ-loop
+array-read-only-if c = search needs
 
-mul-if-linked-2 : tie.Need-mul-if-linked-2 Inv-loop μ-loop
-mul-if-linked-2 c = search needs
+mul-only-if-2 : tie.Need-mul-only-if-2 Inv-loop μ-loop
+mul-only-if-2 c = search needs
 
-element-copy-out-if-linked : tie.Need-element-copy-out-if-linked Inv-loop μ-loop
-element-copy-out-if-linked c = search needs
+element-copy-out-only-if : tie.Need-element-copy-out-only-if Inv-loop μ-loop
+element-copy-out-only-if c = search needs
 
-if-linked-requires : tie.Need-if-linked-requires Inv-loop μ-loop
-if-linked-requires c κs = search needs
+only-if-requires : tie.Need-only-if-requires Inv-loop μ-loop
+only-if-requires c κs = search needs
 
 mul-stock : tie.Need-mul-stock Inv-loop μ-loop
 mul-stock c = search needs
@@ -51,7 +51,7 @@ unfolding among
 loop-again c =
     let l = c .before .before .before .loop in
     let a = c .before .before .before .before .args in
-    fill-step (l .inv) (search needs) (c .if-linked .ensures ∙ rw (place-in 8 (a .t2) (l .g) (search needs), place-in 8 (a .t1 .balance) (l .g) (search needs)))
+    fill-step (l .inv) (search needs) (c .only-if .ensures ∙ rw (place-in 8 (a .t2) (l .g) (search needs), place-in 8 (a .t1 .balance) (l .g) (search needs)))
 
 returns : tie.Need-returns Inv-loop μ-loop
 returns c = fill-done (c .before .loop .inv) (search needs)
@@ -63,11 +63,11 @@ linked-spec =
     Inv-loop
     μ-loop
     loop-holds
-    mul-if-linked
-    array-read-if-linked
-    mul-if-linked-2
-    element-copy-out-if-linked
-    if-linked-requires
+    mul-only-if
+    array-read-only-if
+    mul-only-if-2
+    element-copy-out-only-if
+    only-if-requires
     mul-stock
     array-write-stock
     add-g
