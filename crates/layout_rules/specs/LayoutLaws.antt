@@ -100,7 +100,7 @@ module _ (b : Book) (f : Facts b) where
   agreed-low g (suc zero) = place-low (b .plan .installed) (λ g. omega (arith, f .agreed g .installed)) g
   agreed-low g (suc (suc k)) = place-low (b .plan .contracted) (λ g. omega (arith, f .agreed g .contracted)) g
 
-  -- each term of an equation is at mostFigure the energy that is split
+  -- each term of an equation is at most the energy that is split
   generator-low : (v : GeneratorTerms → ℕ) → ((x : GeneratorTerms) → v x ≤ splitOfInjected x) → Below (mostFigure + 1) (table 8 (λ g. v (b .gen g)))
   generator-low v h = below-table 8 (λ g. v (b .gen g)) (λ g. omega (arith, h (b .gen g), f .gen g .equation, injected-most b f g))
 
