@@ -11,8 +11,8 @@ use Rattle.lists.specs.PairsLaws.{place-in}
 use Rattle.energy.specs.Energy.{portionUp}
 use Rattle.energy.specs.Limits.{mostFigure}
 use Rattle.energy.specs.EnergyLaws.{portion-le}
-use Rattle.order_rules.specs.Order.{only, inOrder}
-use Rattle.order_rules.specs.Members.{Below, below-more, order-below}
+use Rattle.order_rules.specs.Order.{only}
+use Rattle.order_rules.specs.Members.{Below}
 use Rattle.order_rules.specs.Settle.{given, kept, unmet}
 use Rattle.order_rules.specs.SettleLaws.{given-le, kept-is}
 use Rattle.order_rules.specs.Among.{among, given-among, unmet-among}
@@ -73,17 +73,14 @@ module _ (old pending : List ℕ) (rate : ℕ) where
 
 -- ---- step 2, for one consumer
 
--- In the order of n generators those who pass p are linked; the code settles by all of them, of whom the others have nothing for this consumer.
-module _ (x : Bank) (p : ℕ → Bool) (rank : ℕ → ℕ) (n want : ℕ) {all stock taken rest : List ℕ} {left : ℕ} (few : n ≤ 8)
-    (all-is : all ≡ inOrder rank n) (stock-is : stock ≡ table 8 (among p (place 8 (x .balance)))) (s : settledIn taken rest left ≡ settled all stock want) where
+-- In an order gs those who pass p are linked; the code settles by all of them, of whom the others have nothing for this consumer.
+module _ (x : Bank) (p : ℕ → Bool) (gs : List ℕ) (want : ℕ) {stock taken rest : List ℕ} {left : ℕ} (low : Below 8 gs)
+    (stock-is : stock ≡ table 8 (among p (place 8 (x .balance)))) (s : settledIn taken rest left ≡ settled gs stock want) where
   abbrev has : ℕ → ℕ
   has = place 8 (x .balance)
 
-  abbrev gs : List ℕ
-  gs = inOrder rank n
-
   settled-so : settledIn taken rest left ≡ settledBy gs (among p has) want
-  settled-so = s ∙ (λ i. settled (all-is i) (stock-is i) want) ∙ settled-table gs (among p has) want (below-more n 8 gs few (order-below rank n))
+  settled-so = s ∙ (λ i. settled gs (stock-is i) want) ∙ settled-table gs (among p has) want low
 
   taken-is : taken ≡ table 8 (given (only p gs) has want)
   unfolding settledBy

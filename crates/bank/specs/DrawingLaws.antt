@@ -8,11 +8,11 @@ use lib.ListN.{length, set, replicate}
 use Rattle.lists.specs.Sums.{sum-part}
 use Rattle.lists.specs.Tables.{table, Filling, fill-start, fill-step, fill-rest}
 use Rattle.lists.specs.Pairs.{place}
-use Rattle.energy.specs.Limits.{mostRank}
 use Rattle.order_rules.specs.Members.{below-more}
 use Rattle.order_rules.specs.Settle.{given}
 use Rattle.order_rules.specs.SettleLaws.{given-sum, unmet-le, kept-is}
 use Rattle.delivery_rules.specs.Plan.{Plan, suppliers}
+use Rattle.delivery_rules.specs.Orderable.{Orderable}
 use Rattle.delivery_rules.specs.DeliveryLaws.{suppliers-within}
 use Rattle.closing_rules.specs.Drawing.{stockAt, drawnAt, missingAt}
 use Rattle.bank.specs.declared.Bank.{Bank}
@@ -23,13 +23,13 @@ use Rattle.bank.specs.BankLaws.{balances, drawn-by-rule}
 use Rattle.columns.specs.Columns.{ColumnPut, Columns}
 use Rattle.columns.specs.ColumnsLaws.{columns-start, columns-step, columns-pairs}
 
--- what a sound record gives to n generators and m consumers: ranks within their limit, and nobody beyond who wants anything
+-- what a sound record gives to n generators and m consumers: an order, and nobody beyond who wants anything
 pub record Drawable (p : Plan) (n m : ℕ) (outstanding : List ℕ) : Type 0 where
   pub G-is : n ≡ p .G
   pub C-is : m ≡ p .C
   pub G-high : n ≤ 8
   pub C-high : m ≤ 16
-  pub rank-high : (g c : ℕ) → p .rank g c ≤ mostRank
+  pub orderable : Orderable p
   pub beyond : (c : ℕ) → m ≤ c → place 16 outstanding c ≡ 0
 
 module _ (p : Plan) (has want : ℕ → ℕ) where

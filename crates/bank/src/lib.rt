@@ -5,8 +5,8 @@ ghost use Prim.Native.Nat.{ℕ, _-_, _<_, _≤_};
 ghost use lib.Dec.{eqb};
 ghost use Rattle.lists.specs.Tables.{table};
 ghost use Rattle.lists.specs.Pairs.{place};
-ghost use Rattle.energy.specs.Limits.{mostRank};
-ghost use Rattle.order_rules.specs.Order.{inOrder, only};
+ghost use Rattle.order_rules.specs.Order.{only};
+ghost use Rattle.order.specs.Arrays.{turnsOf, Held};
 ghost use Rattle.order_rules.specs.Among.{among};
 ghost use Rattle.bank.specs.Arrays.{Creditable, creditOf, drawOf, lapseOf};
 use energy::Wh;
@@ -96,12 +96,11 @@ impl Bank {
         Bank { balance }
     }
 
-    // Step 2 for one consumer, by its ranks and links of n generators: those who are linked give in their order.
-    pub fn draw(self, n: usize, ranks: [u64; 8], links: [u64; 8], want: u64) -> Draw
-        requires { ⌜ (n ≤ 8) × ((g : ℕ) → place 8 ranks g ≤ mostRank) ⌝ }
-        ensures { λ r. ⌜ r ≡ drawOf self (only (λ g. eqb (place 8 links g) 1) (inOrder (place 8 ranks) n)) want ⌝ }
+    // Step 2 for one consumer, whose order `keys` holds, by its links: those who are linked give in their order.
+    pub fn draw(self, n: usize, keys: [usize; 8], links: [u64; 8], want: u64) -> Draw
+        requires { ⌜ Held keys n ⌝ }
+        ensures { λ r. ⌜ r ≡ drawOf self (only (λ g. eqb (place 8 links g) 1) (turnsOf keys n)) want ⌝ }
     {
-        let keys = order::in_order(ranks, n);
         let mut stock = self.linked(links);
         let mut drawn = [0u64; 8];
         let left = settling::settle(&keys, n, &mut stock, &mut drawn, want);

@@ -16,7 +16,7 @@ use Rattle.layout_rules.specs.Places.{terms-places}
 use Rattle.layout_rules.specs.OnBytes.{recordIn, CalledOn, planIn, bookIn}
 use Rattle.layout_rules.specs.OnBytesLaws.{on-accepted, on-refused}
 use Rattle.block_rules.specs.Block.{afterBlock, entryOf, exitOf, blockRule}
-use Rattle.block_rules.specs.Accepted.{facts, enterable, generators-few, consumers-few, entry-size, exit-size, output-size, ranks-high, deliverable}
+use Rattle.block_rules.specs.Accepted.{facts, enterable, generators-few, consumers-few, entry-size, exit-size, output-size, orderable-here, deliverable}
 use Rattle.block_delivery.specs.Lent.{entriesIn, Ready}
 use Rattle.block_settlement.specs.Bytes.{exitsIn, Ranked}
 use Rattle.block_totals.specs.Totals.{Settled}
@@ -50,7 +50,7 @@ module _ (s entry exit : List ℕ) (size n m : ℕ) (whole : length s ≡ 5752) 
         m-is = m-is;
         n-high = omega (arith, n-is, generators-few _ entry exit size z);
         m-high = omega (arith, m-is, consumers-few _ entry exit size z);
-        ranks = ranks-high _ entry exit size z;
+        orderable = orderable-here _ entry exit size z;
       }
 
   pub exits : length exit ≡ m

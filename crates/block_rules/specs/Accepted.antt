@@ -3,11 +3,12 @@ use Prim.Native.Nat.{ℕ, _+_, _*_, _≤_}
 use mathlib.Core.Path.{_≡_, sym, _∙_}
 use mathlib.Core.List.{List}
 use lib.ListN.{length}
-use Rattle.energy.specs.Limits.{mostGenerators, mostConsumers, mostRank}
+use Rattle.energy.specs.Limits.{mostGenerators, mostConsumers}
 use Rattle.arrays.specs.Bounds.{Moderate}
 use Rattle.delivery_rules.specs.Deliverable.{Deliverable}
+use Rattle.delivery_rules.specs.Orderable.{Orderable}
 use Rattle.record.specs.Stored.{planOf, figures}
-use Rattle.record.specs.SoundLaws.{Facts}
+use Rattle.record.specs.SoundLaws.{Facts, orderable}
 use Rattle.record.specs.Called.{numberOn}
 use Rattle.record.specs.CalledLaws.{accepted-sound, number-sound, record-facts}
 use Rattle.record.specs.declared.Record.{Record}
@@ -44,9 +45,9 @@ module _ (r : Record) (entry exit : List ℕ) (size : ℕ) (z : numberOn (blockR
   unfolding figures blockLength
   output-size = enterable .output-size
 
-  pub ranks-high : (g c : ℕ) → planOf r .rank g c ≤ mostRank
+  pub orderable-here : Orderable (planOf r)
   unfolding figures
-  ranks-high g c = facts .pair g c .rank
+  orderable-here = orderable (figures r) facts
 
   pub deliverable : Deliverable (planOf r) (entryOf entry exit (figures r))
   unfolding figures

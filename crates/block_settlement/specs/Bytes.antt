@@ -4,17 +4,18 @@ use mathlib.Core.Path.{_≡_}
 use mathlib.Core.List.{List}
 use lib.ListN.{length}
 use Rattle.lists.specs.Pairs.{place}
+use Rattle.delivery_rules.specs.Orderable.{Orderable}
 use Rattle.layout_rules.specs.OnBytes.{planIn}
-use Rattle.energy.specs.Limits.{mostRank, mostGenerators, mostConsumers}
+use Rattle.energy.specs.Limits.{mostGenerators, mostConsumers}
 
 abbrev pub exitsIn : List ℕ → List ℕ → ℕ → ℕ
 exitsIn s exit = place (planIn s .C) exit
 
--- the bytes of a record of n generators and m consumers with its ranks in bounds
+-- the bytes of a record of n generators and m consumers whose order can be read
 pub record Ranked (s : List ℕ) (n m : ℕ) : Type 0 where
   pub whole : length s ≡ 5752
   pub n-is : n ≡ planIn s .G
   pub m-is : m ≡ planIn s .C
   pub n-high : n ≤ mostGenerators
   pub m-high : m ≤ mostConsumers
-  pub ranks : (g c : ℕ) → planIn s .rank g c ≤ mostRank
+  pub orderable : Orderable (planIn s)

@@ -12,7 +12,7 @@ use Rattle.order_rules.specs.Members.{order-below}
 use Rattle.order_rules.specs.Settle.{given, unmet}
 use Rattle.order_rules.specs.SettleLaws.{kept-is}
 use Rattle.settling.specs.Settling.{settledIn, settled}
-use Rattle.delivery_rules.specs.Plan.{Plan, order}
+use Rattle.delivery_rules.specs.Plan.{Plan, standing, order}
 use Rattle.delivery_rules.specs.Delivery.{delivered, atExit}
 use Rattle.delivery_rules.specs.DeliveredIn.{DeliveredIn}
 use Rattle.settlement_rules.specs.Settlement.{setOff, afterSetOff, underdrawn, shortfall, remainder, blockOutput}
@@ -129,7 +129,7 @@ unfolding order
 consumer-settled {p} {E} {R} {n} {m} {c} {has = has} {gap = gap} a en em few within read turns has-is first gap-is second put h =
     let within′ : c < p .C = omega (arith, em) in
     let few′ : p .G ≤ 8 = omega (arith, en) in
-    let below = order-below (λ g. p .rank g c) (p .G) in
+    let below = order-below (standing p c) (p .G) in
     settled-step p E R h within′ read
     (settles (λ g. delivered p g (E g) c) has few′ below
     (λ g l. (rw (en, em) at (has-is .at g (omega (arith, en)))) ∙ h .delivered-is g c l within′ (omega arith)) (rw turns at first))

@@ -14,8 +14,7 @@ fn settle_one(s: &[u8], n: usize, m: usize, c: usize, read: u64, out: &mut [u64]
     requires { ⌜ Ranked (now s) n m × ((c < m) × (length (now out) ≡ 4 * (n * m) + n + m)) ⌝ }
     ensures { λ _. ⌜ ((E R : ℕ → ℕ) → read ≡ R c → SettledTo (planIn (now (s .entry))) E R c (now (out .entry)) → SettledTo (planIn (now (s .entry))) E R (c + 1) (now (out .exit))) ⌝ }
 {
-    let ranks = in_place::column_at(s, layout_rules::RANK + c);
-    let keys = order::in_order(ranks, n);
+    let keys = turns::turns_at(s, n, c);
     let size = n * m;
     let mut has = [0u64; 8];
     columns::get_column_at(out, 2 * size, n, m, c, &mut has);

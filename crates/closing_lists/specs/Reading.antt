@@ -7,8 +7,8 @@ use lib.Dec.{eqb}
 use lib.ListN.{getD}
 use Rattle.lists.specs.Tables.{table}
 use Rattle.lists.specs.Pairs.{place}
-use Rattle.energy.specs.Limits.{mostRank}
-use Rattle.order_rules.specs.Order.{inOrder, only}
+use Rattle.order_rules.specs.Order.{only}
+use Rattle.order.specs.Arrays.{turnsOf}
 use Rattle.delivery_rules.specs.Plan.{order, suppliers}
 use Rattle.codec.specs.Bytes.{decode}
 use Rattle.record.specs.Words.{recordOf}
@@ -20,8 +20,7 @@ use Rattle.record.specs.declared.Consumers.{Consumers}
 use Rattle.layout_rules.specs.Layout.{run, generators-at, consumers-at}
 use Rattle.layout_rules.specs.Places.{terms-places, counts-places}
 use Rattle.layout_rules.specs.OnBytes.{planIn}
-use Rattle.layout_rules.specs.Columns.{rank-column, link-column}
-use Rattle.bank.specs.DrawingLaws.{Drawable}
+use Rattle.layout_rules.specs.Columns.{link-column}
 use Rattle.closing_rules.specs.Closing.{closingRule}
 use Rattle.closing_steps.specs.Accepted.{StepsRead, gone-few}
 
@@ -48,11 +47,8 @@ module _ (s : List ℕ) where
   pub ends-so : {gone cycle : ℕ} {ends : Bool} → gone ≡ getD ws 4 0 → cycle ≡ getD ws 3 0 → ends ≡ eqb (gone + 1) cycle → ends ≡ eqb (recordOf ws .counts .gone + 1) (recordOf ws .terms .cycle)
   ends-so gone cycle e = e ∙ rw (gone, cycle, terms-places ws, counts-places ws)
 
--- one consumer's ranks and links, read where they stand
-module _ (s : List ℕ) {outstanding : List ℕ} {n m : ℕ} (ready : Drawable (planIn s) n m outstanding) (c : ℕ) {ranks : List ℕ} (l : c < 16) (ranks-are : ranks ≡ table 8 (λ g. getD (decode 8 719 s) (415 + c + g * 16) 0)) where
-  pub ranks-high : (g : ℕ) → place 8 ranks g ≤ mostRank
-  ranks-high g = rw (rank-column s c l ranks-are) (ready .rank-high g c)
-
-  pub suppliers-are : {links : List ℕ} → links ≡ table 8 (λ g. getD (decode 8 719 s) (31 + c + g * 16) 0) → only (λ g. eqb (place 8 links g) 1) (inOrder (place 8 ranks) n) ≡ suppliers (planIn s) c
-  unfolding suppliers order
-  suppliers-are links-are = rw (rank-column s c l ranks-are, link-column s c l links-are, ready .G-is)
+-- one consumer's links, read where they stand
+pub suppliers-are : (s : List ℕ) (c n : ℕ) (keys : List ℕ) {links : List ℕ} → c < 16 → turnsOf keys n ≡ order (planIn s) c → links ≡ table 8 (λ g. getD (decode 8 719 s) (31 + c + g * 16) 0) →
+    only (λ g. eqb (place 8 links g) 1) (turnsOf keys n) ≡ suppliers (planIn s) c
+unfolding suppliers
+suppliers-are s c n keys l turns links-are = rw (turns, link-column s c l links-are)

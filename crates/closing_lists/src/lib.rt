@@ -13,7 +13,7 @@ ghost use Rattle.closing_steps.specs.Output.{OutputRoom, sixLists};
 use bank::Bank;
 use bank::Drawing;
 
-// Steps 2 and 3: consumers 1 to m draw one after the other, each by its ranks and links where they stand in the record's bytes. The columns
+// Steps 2 and 3: consumers 1 to m draw one after the other, each by its order and links where they stand in the record's bytes. The columns
 // and places from m on stay the zeros that they are made with.
 fn draw_all(s: &[u8], bank: Bank, n: usize, m: usize, outstanding: [u64; 16]) -> Drawing
     requires { ⌜ (length (now s) ≡ 5752) × Drawable (planIn (now s)) n m outstanding ⌝ }
@@ -24,9 +24,9 @@ fn draw_all(s: &[u8], bank: Bank, n: usize, m: usize, outstanding: [u64; 16]) ->
     let mut left = bank;
     let mut c: usize = 0;
     while c < m {
-        let ranks = in_place::column_at(s, layout_rules::RANK + c);
+        let keys = turns::turns_at(s, n, c);
         let links = in_place::column_at(s, layout_rules::LINK + c);
-        let turn = left.draw(n, ranks, links, outstanding[c]);
+        let turn = left.draw(n, keys, links, outstanding[c]);
         let column = turn.drawn;
         let next = turn.bank;
         columns::put_column(&mut drawn, 8, 16, c, &column);

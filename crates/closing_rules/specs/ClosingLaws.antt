@@ -15,7 +15,7 @@ use Rattle.energy.specs.EnergyLaws.{portion-le}
 use Rattle.order_rules.specs.Members.{In, order-in, only-in}
 use Rattle.order_rules.specs.OrderLaws.{Ahead, order-sorted, only-sorted}
 use Rattle.order_rules.specs.SettleLaws.{given-sum, given-le, given-all, kept-is, earlier-first}
-use Rattle.delivery_rules.specs.Plan.{order, suppliers}
+use Rattle.delivery_rules.specs.Plan.{standing, order, suppliers}
 use Rattle.delivery_rules.specs.DeliveryLaws.{suppliers-within}
 use Rattle.record.specs.Book.{Book}
 use Rattle.record.specs.CalledLaws.{Keeps}
@@ -77,7 +77,7 @@ module _ (b : Book) where
 
   supplier-in : (g c : ℕ) → g < b .plan .G → b .plan .link g c ≡ 1 → In g (suppliers (b .plan) c)
   unfolding suppliers order
-  supplier-in g c h l = only-in (λ g. eqb (b .plan .link g c) 1) g (order (b .plan) c) (eq-eqb _ 1 l) (order-in (λ g. b .plan .rank g c) (b .plan .G) g h)
+  supplier-in g c h l = only-in (λ g. eqb (b .plan .link g c) 1) g (order (b .plan) c) (eq-eqb _ 1 l) (order-in (standing (b .plan) c) (b .plan .G) g h)
 
   used-up : (g c : ℕ) → In g (suppliers (b .plan) c) → 0 < supplied b c → drawn b g c ≡ banks b c g
   unfolding drawn supplied drawnAt missingAt banks
@@ -94,12 +94,12 @@ module _ (b : Book) where
 
   -- a later generator's bank is drawn only where every earlier linked one's is used up
   pub earlier-drawn :
-      (g h c : ℕ) → g < b .plan .G → h < b .plan .G → b .plan .link g c ≡ 1 → b .plan .link h c ≡ 1 → Ahead (λ k. b .plan .rank k c) g h →
+      (g h c : ℕ) → g < b .plan .G → h < b .plan .G → b .plan .link g c ≡ 1 → b .plan .link h c ≡ 1 → Ahead (standing (b .plan) c) g h →
       0 < drawn b h c → drawn b g c ≡ banks b c g
   unfolding drawn drawnAt banks suppliers order
   earlier-drawn g h c hg hh lg lh a l =
-      earlier-first (λ k. b .plan .rank k c) (suppliers (b .plan) c) (banks b c) (b .con c .outstanding) g h
-      (only-sorted (λ k. b .plan .rank k c) (λ g. eqb (b .plan .link g c) 1) (order (b .plan) c) (order-sorted (λ k. b .plan .rank k c) (b .plan .G)))
+      earlier-first (standing (b .plan) c) (suppliers (b .plan) c) (banks b c) (b .con c .outstanding) g h
+      (only-sorted (standing (b .plan) c) (λ g. eqb (b .plan .link g c) 1) (order (b .plan) c) (order-sorted (standing (b .plan) c) (b .plan .G)))
       (supplier-in g c hg lg) (supplier-in h c hh lh) a l
 
   -- ---- soundness

@@ -8,7 +8,7 @@ use lib.Dec.{eqb}
 use lib.ListN.{length}
 use Rattle.record.specs.Book.{noConsumption}
 use Rattle.record.specs.Stored.{generatorAt, consumerAt, planOf, figures}
-use Rattle.record.specs.SoundLaws.{Facts, injected-most, con-beyond}
+use Rattle.record.specs.SoundLaws.{Facts, orderable, injected-most, con-beyond}
 use Rattle.record.specs.Called.{numberOn}
 use Rattle.record.specs.CalledLaws.{accepted-sound, number-sound, record-facts}
 use Rattle.record.specs.declared.ConsumerTerms.{ConsumerTerms}
@@ -55,7 +55,7 @@ module _ (r : Record) (size : ℕ) (z : numberOn (closingRule size) r ≡ 0) whe
         C-is = refl;
         G-high = generators-few;
         C-high = consumers-few;
-        rank-high = λ g c. facts .pair g c .rank;
+        orderable = orderable (figures r) facts;
         beyond = λ c h. ap (λ (x : ConsumerTerms). x .outstanding) (con-beyond (figures r) facts c h);
       }
 

@@ -14,14 +14,14 @@ use Rattle.energy.specs.EnergyLaws.{loss-le, after-loss-up}
 use Rattle.sharing.specs.Share.{part}
 use Rattle.sharing.specs.ShareLaws.{parts-sum, part-none, part-le}
 use Rattle.order_rules.specs.Members.{Below, order-below, only-below}
-use Rattle.delivery_rules.specs.Plan.{Plan, deemed, scheduled, order, suppliers}
+use Rattle.delivery_rules.specs.Plan.{Plan, deemed, scheduled, standing, order, suppliers}
 use Rattle.delivery_rules.specs.Delivery.{countedOf, counted, partOf, lossOf, delivered, atExit}
 
 -- ---- the order
 
 pub order-within : (p : Plan) (c : ℕ) → Below (p .G) (order p c)
 unfolding order
-order-within p c = order-below (λ g. p .rank g c) (p .G)
+order-within p c = order-below (standing p c) (p .G)
 
 pub suppliers-within : (p : Plan) (c : ℕ) → Below (p .G) (suppliers p c)
 unfolding suppliers

@@ -5,7 +5,7 @@ use mathlib.Core.Bool.{Bool, not}
 use mathlib.Core.List.{List}
 use lib.Dec.{eqb}
 use Rattle.lists.specs.Sums.{sum}
-use Rattle.order_rules.specs.Order.{inOrder, only}
+use Rattle.order_rules.specs.Order.{Standing, inOrder, only}
 
 pub record Plan : Type 0 where
   pub G : ℕ
@@ -32,9 +32,13 @@ module _ (p : Plan) where
   unfoldable pub scheduled : ℕ → ℕ
   scheduled g = sum (p .C) (p .kw g)
 
+  -- what consumer c's generators are placed by
+  abbrev pub standing : ℕ → ℕ → Standing
+  standing c g = record { rank = p .rank g c }
+
   -- the inter-se order of the generators for consumer c
   unfoldable pub order : ℕ → List ℕ
-  order c = inOrder (λ g. p .rank g c) (p .G)
+  order c = inOrder (standing c) (p .G)
 
   -- those of them that are linked to c
   unfoldable pub suppliers : ℕ → List ℕ

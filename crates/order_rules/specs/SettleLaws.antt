@@ -11,6 +11,7 @@ use borrow.Author.Tests.{ne-eqb, eq-eqb, eqb-true, eqb-false, leb-true, leb-fals
 use lib.Dec.{eqb, leb}
 use Rattle.lists.specs.Sums.{sum, sum-cong, sum-add}
 use Rattle.lists.specs.Choice.{if_then_else_}
+use Rattle.order_rules.specs.Order.{Standing}
 use Rattle.order_rules.specs.Settle.{lower, settle, given, kept, unmet}
 use Rattle.order_rules.specs.Members.{In, Below}
 use Rattle.order_rules.specs.OrderLaws.{Ahead, Sorted, ahead-not-both, all-of-at}
@@ -164,20 +165,20 @@ head-first g gs has want h ne l = go (leb (has g) want) refl
         let z : want - y ≡ 0 = omega arith in
         absurd (omega (arith, settle-nothing gs (lower has g y) (want - y) h z, lower-other has g y h ne))
 
-ahead-other : (rank : ℕ → ℕ) (g h : ℕ) → Ahead rank g h → h ≡ g → ⊥
-ahead-other rank g h a e = ahead-not-both rank g h a (subst (λ (x : ℕ). Ahead rank x g) (sym e) (subst (λ (x : ℕ). Ahead rank g x) e a))
+ahead-other : (who : ℕ → Standing) (g h : ℕ) → Ahead who g h → h ≡ g → ⊥
+ahead-other who g h a e = ahead-not-both who g h a (subst (λ (x : ℕ). Ahead who x g) (sym e) (subst (λ (x : ℕ). Ahead who g x) e a))
 
-module _ (rank : ℕ → ℕ) where
-  pub earlier-first : (gs : List ℕ) (has : ℕ → ℕ) (want g h : ℕ) → Sorted rank gs → In g gs → In h gs → Ahead rank g h →
+module _ (who : ℕ → Standing) where
+  pub earlier-first : (gs : List ℕ) (has : ℕ → ℕ) (want g h : ℕ) → Sorted who gs → In g gs → In h gs → Ahead who g h →
       0 < given gs has want h → given gs has want g ≡ has g
   earlier-first [] has want g h s m k a l = absurd m
   earlier-first (x ∷ gs) has want g h s (inl e) k a l =
       subst (λ (z : ℕ). given (x ∷ gs) has want z ≡ has z) (sym e)
-      (head-first x gs has want h (λ q. ahead-other rank g h a (q ∙ sym e)) l)
+      (head-first x gs has want h (λ q. ahead-other who g h a (q ∙ sym e)) l)
   earlier-first (x ∷ gs) has want g h s (inr m) (inl e) a l =
-      absurd (ahead-not-both rank g h a (subst (λ (z : ℕ). Ahead rank z g) (sym e) (all-of-at (Ahead rank x) gs g (s .0) m)))
+      absurd (ahead-not-both who g h a (subst (λ (z : ℕ). Ahead who z g) (sym e) (all-of-at (Ahead who x) gs g (s .0) m)))
   earlier-first (x ∷ gs) has want g h s (inr m) (inr k) a l =
-      let apart : (z : ℕ) → In z gs → z ≡ x → ⊥ = λ z i. ahead-other rank x z (all-of-at (Ahead rank x) gs z (s .0) i) in
+      let apart : (z : ℕ) → In z gs → z ≡ x → ⊥ = λ z i. ahead-other who x z (all-of-at (Ahead who x) gs z (s .0) i) in
       let y = min (has x) want in
       let t : 0 < given gs (lower has x y) (want - y) h = omega (arith, given-tail x gs has want h (apart h k)) in
       given-tail x gs has want g (apart g m) ∙ earlier-first gs (lower has x y) (want - y) g h (s .1) m k a t ∙ lower-other has x y g (apart g m)

@@ -12,6 +12,7 @@ use Rattle.lists.specs.Sums.{sum-zero, sum-part}
 use Rattle.lists.specs.Tests.{all, within, all-at, all-from, and-left, and-right, and-both, chain-at, within-low, within-high, within-from}
 use Rattle.energy.specs.Limits.{mostGenerators, mostConsumers, lastKind, mostCapacity, mostLoss, mostRate, mostCycle, mostRank, mostReading, mostMonthBlocks, mostUnitBlocks, mostFigure}
 use Rattle.delivery_rules.specs.Plan.{scheduled}
+use Rattle.delivery_rules.specs.Orderable.{Orderable}
 use Rattle.record.specs.Book.{Book, splitOfInjected, splitOfMetered, noInjection, noConsumption}
 use Rattle.record.specs.Sound.{limit, countsSound, agreedSound, pairSound, generatorSound, consumerSound, sound}
 use Rattle.record.specs.declared.GeneratorTerms.{GeneratorTerms}
@@ -476,3 +477,6 @@ module _ (b : Book) (f : Facts b) where
       go : (t : Bool) → ltb c (b .plan .C) ≡ t → b .plan .kw g c ≤ mostCapacity
       go true e = omega (arith, sum-part (b .plan .C) (b .plan .kw g) c (ltb-true c (b .plan .C) e), f .agreed g .total, f .agreed g .installed)
       go false e = omega (arith, pair-beyond g c (inr (ltb-false c (b .plan .C) e)) .1 .1 .0)
+
+  pub orderable : Orderable (b .plan)
+  orderable = record { rank-high = λ g c. f .pair g c .rank }

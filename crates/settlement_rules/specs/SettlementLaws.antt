@@ -7,7 +7,7 @@ use Rattle.lists.specs.Sums.{sum, sum-cong, sum-add}
 use Rattle.order_rules.specs.Members.{order-in}
 use Rattle.order_rules.specs.OrderLaws.{Ahead, order-sorted}
 use Rattle.order_rules.specs.SettleLaws.{given-sum, given-le, earlier-first}
-use Rattle.delivery_rules.specs.Plan.{Plan, order}
+use Rattle.delivery_rules.specs.Plan.{Plan, standing, order}
 use Rattle.delivery_rules.specs.Delivery.{unaccounted, partOf, lossOf, delivered, atExit}
 use Rattle.delivery_rules.specs.DeliveryLaws.{order-within, counted-le, parts, lossOf-le}
 use Rattle.settlement_rules.specs.Settlement.{setOff, afterSetOff, underdrawn, shortfall, remainder}
@@ -33,18 +33,18 @@ module _ (p : Plan) (E : ℕ → ℕ) (c r : ℕ) where
       )
 
   -- a later generator is set off only where every earlier one's delivered energy is used up
-  pub earlier-set-off : (g h : ℕ) → g < p .G → h < p .G → Ahead (λ k. p .rank k c) g h → 0 < setOff p E c r h → setOff p E c r g ≡ delivered p g (E g) c
+  pub earlier-set-off : (g h : ℕ) → g < p .G → h < p .G → Ahead (standing p c) g h → 0 < setOff p E c r h → setOff p E c r g ≡ delivered p g (E g) c
   unfolding setOff order
   earlier-set-off g h lg lh a l =
-      earlier-first (λ k. p .rank k c) (order p c) (λ k. delivered p k (E k) c) r g h
-      (order-sorted (λ k. p .rank k c) (p .G)) (order-in (λ k. p .rank k c) (p .G) g lg) (order-in (λ k. p .rank k c) (p .G) h lh) a l
+      earlier-first (standing p c) (order p c) (λ k. delivered p k (E k) c) r g h
+      (order-sorted (standing p c) (p .G)) (order-in (standing p c) (p .G) g lg) (order-in (standing p c) (p .G) h lh) a l
 
   -- and so for the shortfall
-  pub earlier-shortfall : (g h : ℕ) → g < p .G → h < p .G → Ahead (λ k. p .rank k c) g h → 0 < shortfall p E c r h → shortfall p E c r g ≡ atExit p g (E g) c - delivered p g (E g) c
+  pub earlier-shortfall : (g h : ℕ) → g < p .G → h < p .G → Ahead (standing p c) g h → 0 < shortfall p E c r h → shortfall p E c r g ≡ atExit p g (E g) c - delivered p g (E g) c
   unfolding shortfall order
   earlier-shortfall g h lg lh a l =
-      earlier-first (λ k. p .rank k c) (order p c) (λ k. atExit p k (E k) c - delivered p k (E k) c) (afterSetOff p E c r) g h
-      (order-sorted (λ k. p .rank k c) (p .G)) (order-in (λ k. p .rank k c) (p .G) g lg) (order-in (λ k. p .rank k c) (p .G) h lh) a l
+      earlier-first (standing p c) (order p c) (λ k. atExit p k (E k) c - delivered p k (E k) c) (afterSetOff p E c r) g h
+      (order-sorted (standing p c) (p .G)) (order-in (standing p c) (p .G) g lg) (order-in (standing p c) (p .G) h lh) a l
 
 -- what a generator's reading is split into adds up to it
 module _ (p : Plan) (E R : ℕ → ℕ) (g : ℕ) (rates : (c : ℕ) → c < p .C → p .loss g c ≤ 10_000) where

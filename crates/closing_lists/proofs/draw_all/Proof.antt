@@ -7,7 +7,8 @@ use Rattle.lists.specs.PairsLaws.{place-in}
 use Rattle.lists.specs.Pairs.{place}
 use Rattle.layout_rules.specs.OnBytes.{planIn}
 use Rattle.bank.specs.DrawingLaws.{Drawn, drawing-start, drawing-step, drawing-done}
-use Rattle.closing_lists.specs.Reading.{ranks-high, suppliers-are}
+use Rattle.turns.specs.TurnsLaws.{turns-held}
+use Rattle.closing_lists.specs.Reading.{suppliers-are}
 use Rattle.closing_lists.proofs.draw_all.Statement.{statement}
 use Rattle.closing_lists.proofs.draw_all.Tie as tie
 
@@ -34,17 +35,16 @@ consumer i = i .before .loop .c
 within : (i : In) → consumer i < 16
 within i = omega (arith, i .loop-test .taken, start i .pre .1 .C-high)
 
+turns-at-requires : tie.Need-turns-at-requires Inv-loop μ-loop
+turns-at-requires i κs =
+    let p = start i .pre .1 in
+    record { whole = start i .pre .0; n-is = p .G-is; n-high = p .G-high; c-high = within i; orderable = p .orderable }
+
 add-column-at : tie.Need-add-column-at Inv-loop μ-loop
 add-column-at c = search needs
 
 column-at-requires : tie.Need-column-at-requires Inv-loop μ-loop
 column-at-requires c κs = search needs
-
-add-column-at-2 : tie.Need-add-column-at-2 Inv-loop μ-loop
-add-column-at-2 c = search needs
-
-column-at-requires-2 : tie.Need-column-at-requires-2 Inv-loop μ-loop
-column-at-requires-2 c κs = search needs
 
 mul-draw : tie.Need-mul-draw Inv-loop μ-loop
 mul-draw c = search needs
@@ -55,7 +55,7 @@ array-read-draw c = search needs
 draw-requires : tie.Need-draw-requires Inv-loop μ-loop
 draw-requires c κs =
     let i = c .before .before in
-    (start i .pre .1 .G-high, ranks-high _ (start i .pre .1) (consumer i) (within i) (c .before .column-at .ensures))
+    turns-held _ _ (start i .pre .1 .G-is) (start i .pre .1 .G-high) (c .before .turns-at .ensures)
 
 slice-aggregate-put-column : tie.Need-slice-aggregate-put-column Inv-loop μ-loop
 slice-aggregate-put-column c = search needs
@@ -83,7 +83,7 @@ loop-again c =
     let ranked = linked .before in
     let i = ranked .before in
     let p = start i .pre .1 in
-    let gs = suppliers-are _ p (consumer i) (within i) (ranked .column-at .ensures) (linked .column-at2 .ensures) in (
+    let gs = suppliers-are _ (consumer i) _ _ (within i) (ranked .turns-at .ensures) (linked .column-at .ensures) in (
       drawing-step _ _ _ (omega (arith, p .G-is, p .G-high)) (within i) (i .before .loop .inv .0) (sym (place-in 16 _ _ (within i))) (rw gs at (drew .draw .ensures)) (put .put-column .ensures),
       omega (arith, i .loop-test .taken),
     )
@@ -102,10 +102,9 @@ draw-all-spec =
     Inv-loop
     μ-loop
     loop-holds
+    turns-at-requires
     add-column-at
     column-at-requires
-    add-column-at-2
-    column-at-requires-2
     mul-draw
     array-read-draw
     draw-requires
