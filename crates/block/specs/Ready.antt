@@ -3,7 +3,7 @@ use Prim.Native.Nat.{ℕ, _+_, _*_}
 use mathlib.Core.Path.{_≡_, refl, sym, ap, _∙_}
 use mathlib.Core.List.{List}
 use native.Mathlib.Omega.{arith}
-use lib.ListN.{length, getD}
+use lib.ListN.{length}
 use Rattle.codec.specs.Bytes.{encode, decode}
 use Rattle.delivery_rules.specs.DeliveredIn.{DeliveredIn}
 use Rattle.settlement_rules.specs.Settlement.{blockOutput}
@@ -12,7 +12,8 @@ use Rattle.record.specs.Words.{words, recordOf}
 use Rattle.record.specs.Stored.{planOf, figures, stored}
 use Rattle.record.specs.Called.{numberOn}
 use Rattle.record.specs.declared.Terms.{Terms}
-use Rattle.layout_rules.specs.Places.{terms-places}
+use Rattle.record.specs.declared.Counts.{Counts}
+use Rattle.layout_rules.specs.Head.{HeadRead}
 use Rattle.layout_rules.specs.OnBytes.{recordIn, CalledOn, planIn, bookIn}
 use Rattle.layout_rules.specs.OnBytesLaws.{on-accepted, on-refused}
 use Rattle.block_rules.specs.Block.{afterBlock, entryOf, exitOf, blockRule}
@@ -21,21 +22,26 @@ use Rattle.block_delivery.specs.Lent.{entriesIn, Ready}
 use Rattle.block_settlement.specs.Bytes.{exitsIn, Ranked}
 use Rattle.block_totals.specs.Totals.{Settled}
 
-module _ (s entry exit : List ℕ) (size n m : ℕ) (whole : length s ≡ 5752) (z : numberOn (blockRule entry exit size) (recordOf (decode 8 719 s)) ≡ 0)
-    (n-read : n ≡ getD (decode 8 719 s) 0 0) (m-read : m ≡ getD (decode 8 719 s) 1 0) where
+module _ (s entry exit : List ℕ) (size : ℕ) {terms : Terms} {counts : Counts} (head : HeadRead s terms counts) (z : numberOn (blockRule entry exit size) (recordOf (decode 8 719 s)) ≡ 0) where
+  abbrev n : ℕ
+  n = terms .generators
+
+  abbrev m : ℕ
+  m = terms .consumers
+
   n-is : n ≡ planIn s .G
   unfolding planOf
-  n-is = n-read ∙ ap (λ (t : Terms). t .generators) (sym (terms-places (decode 8 719 s)))
+  n-is = ap (λ (t : Terms). t .generators) (head .terms-are)
 
   m-is : m ≡ planIn s .C
   unfolding planOf
-  m-is = m-read ∙ ap (λ (t : Terms). t .consumers) (sym (terms-places (decode 8 719 s)))
+  m-is = ap (λ (t : Terms). t .consumers) (head .terms-are)
 
   pub ready : Ready s n m entry
   unfolding entryOf figures
   ready =
       record {
-        whole = whole;
+        whole = head .whole;
         n-is = n-is;
         m-is = m-is;
         readings = entry-size _ entry exit size z ∙ sym n-is;
@@ -45,7 +51,7 @@ module _ (s entry exit : List ℕ) (size n m : ℕ) (whole : length s ≡ 5752) 
   pub ranked : Ranked s n m
   ranked =
       record {
-        whole = whole;
+        whole = head .whole;
         n-is = n-is;
         m-is = m-is;
         n-high = omega (arith, n-is, generators-few _ entry exit size z);
@@ -62,13 +68,14 @@ module _ (s entry exit : List ℕ) (size n m : ℕ) (whole : length s ≡ 5752) 
   pub delivered-sized : {out : List ℕ} → DeliveredIn (planIn s) (entriesIn s entry) out → length out ≡ 4 * (n * m) + n + m
   delivered-sized d = rw (n-is, m-is) (d .size)
 
-  pub settled : {out : List ℕ} → out ≡ blockOutput (planIn s) (entriesIn s entry) (exitsIn s exit) → Settled s n m entry exit out
+  pub settled : {out : List ℕ} → out ≡ blockOutput (planIn s) (entriesIn s entry) (exitsIn s exit) → Settled s n m counts entry exit out
   unfolding entryOf exitOf figures
   settled {out} e =
       record {
-        size = whole;
+        size = head .whole;
         generators = n-is;
         consumers = m-is;
+        counts-are = head .counts-are;
         sound = facts _ entry exit size z;
         enterable = rw (ap length e ∙ output-back (planIn s) (entriesIn s entry) (exitsIn s exit) .size ∙ sym (output-size _ entry exit size z)) (enterable _ entry exit size z);
         output = e;

@@ -6,18 +6,26 @@ ghost use Rattle.codec.specs.Bytes.{decode};
 ghost use Rattle.record.specs.Called.{numberOn};
 ghost use Rattle.record.specs.Words.{recordOf};
 ghost use Rattle.layout_rules.specs.OnBytes.{CalledOn};
+ghost use Rattle.layout_rules.specs.Head.{HeadRead};
 ghost use Rattle.block_rules.specs.Block.{blockRule, Blocked};
 use record::Answer;
+use record::Counts;
 use record::Record;
+use record::Terms;
 
-// The number of a block on the record that the bytes hold.
-fn refusal_on(s: &[u8], entry: &[u32], exit: &[u32], size: usize) -> u32
-    requires { ⌜ length (now s) ≡ 5752 ⌝ }
+// The number of a block on the record that the bytes hold, with its terms and counts.
+fn refusal_on(
+    s: &[u8],
+    terms: Terms,
+    counts: Counts,
+    entry: &[u32],
+    exit: &[u32],
+    size: usize,
+) -> u32
+    requires { ⌜ HeadRead (now s) terms counts ⌝ }
     ensures { λ x. ⌜ x ≡ numberOn (blockRule (now (entry .entry)) (now (exit .entry)) size) (recordOf (decode 8 719 (now (s .entry)))) ⌝ }
 {
-    if soundness::is_sound(s) {
-        let terms = loading::load_terms(s);
-        let counts = loading::load_counts(s);
+    if soundness::is_sound(s, terms, counts) {
         let n = terms.generators as usize;
         let m = terms.consumers as usize;
         block_refusal::refusal(n, m, counts, entry, exit, size)
@@ -32,13 +40,15 @@ pub fn block_on(s: &mut [u8], entry: &[u32], exit: &[u32], out: &mut [u64]) -> u
     requires { ⌜ length (now s) ≡ 5752 ⌝ }
     ensures { λ r. ⌜ CalledOn (blockRule (now (entry .entry)) (now (exit .entry)) (length (now (out .entry)))) (now (s .entry)) (now (out .entry)) r (now (s .exit)) (now (out .exit)) ⌝ }
 {
-    let number = refusal_on(s, entry, exit, out.len());
+    let terms = loading::load_terms(s);
+    let counts = loading::load_counts(s);
+    let number = refusal_on(s, terms, counts, entry, exit, out.len());
     if number == 0 {
-        let n = in_place::number_at(s, layout_rules::GENERATOR_COUNT) as usize;
-        let m = in_place::number_at(s, layout_rules::CONSUMER_COUNT) as usize;
+        let n = terms.generators as usize;
+        let m = terms.consumers as usize;
         block_delivery::deliver(s, n, m, entry, out);
         block_settlement::settle_all(s, n, m, exit, out);
-        block_totals::raise(s, n, m, entry, exit, out);
+        block_totals::raise(s, n, m, counts, entry, exit, out);
         return 0;
     }
     number

@@ -28,6 +28,7 @@ use Rattle.record.specs.Shape.{Shape}
 use Rattle.record.specs.SoundLaws.{Facts}
 use Rattle.record.specs.Words.{runLengths, total, words, cut, fromRuns, recordOf}
 use Rattle.record.specs.declared.Record.{Record}
+use Rattle.record.specs.declared.Counts.{Counts}
 use Rattle.layout_rules.specs.Raised.{raised, from, raised-run, raised-either, raised-other, list-raised}
 use Rattle.layout_rules.specs.LayoutLaws.{bytes-of-record}
 use Rattle.layout_rules.specs.Places.{kind-place}
@@ -277,7 +278,7 @@ module _ (s entry exit out : List ℕ) (f : Facts (bookIn s)) (ok : Enterable en
 
 -- ---- what the call requires, and what it makes
 
-module _ {s : List ℕ} {n m : ℕ} {entry exit out : List ℕ} (h : Settled s n m entry exit out) where
+module _ {s : List ℕ} {n m : ℕ} {counts : Counts} {entry exit out : List ℕ} (h : Settled s n m counts entry exit out) where
   -- bytes of the numbers raised are those of the record that rule 8 stores
   pub bytes-after : (t : List ℕ) → length t ≡ 5752 → Below 256 t → decode 8 719 t ≡ consumersRaised n m exit out (generatorsRaised n m entry out (countsRaised (decode 8 719 s))) →
       t ≡ encode 8 (words (stored (afterBlock (bookIn s) (entryOf entry exit (bookIn s)) (exitOf entry exit (bookIn s)))))

@@ -6,7 +6,10 @@ use lib.Dec.{eqb}
 use lib.ListN.{length, getD}
 use Rattle.lists.specs.Choice.{if_then_else_}
 use Rattle.settlement_rules.specs.Settlement.{blockOutput}
+use Rattle.codec.specs.Bytes.{decode}
 use Rattle.record.specs.SoundLaws.{Facts}
+use Rattle.record.specs.Words.{recordOf}
+use Rattle.record.specs.declared.Counts.{Counts}
 use Rattle.layout_rules.specs.OnBytes.{bookIn}
 use Rattle.layout_rules.specs.Raised.{raised, from}
 use Rattle.raising.specs.Raise.{rowSum, columnSum, OutputLists}
@@ -49,11 +52,12 @@ BlockLists n m = OutputLists (4 * (n * m) + n + m) n m
 
 -- ---- the call
 
--- the bytes s hold a sound record, which takes a block of these readings, and the block's lists stand in out
-pub record Settled (s : List ℕ) (n m : ℕ) (entry exit out : List ℕ) : Type 0 where
+-- the bytes s hold a sound record with these counts, which takes a block of these readings, and the block's lists stand in out
+pub record Settled (s : List ℕ) (n m : ℕ) (counts : Counts) (entry exit out : List ℕ) : Type 0 where
   pub size : length s ≡ 5752
   pub generators : n ≡ bookIn s .plan .G
   pub consumers : m ≡ bookIn s .plan .C
+  pub counts-are : counts ≡ recordOf (decode 8 719 s) .counts
   pub sound : Facts (bookIn s)
   pub enterable : Enterable entry exit (length out) (bookIn s)
   pub output : out ≡ blockOutput (bookIn s .plan) (entryOf entry exit (bookIn s)) (exitOf entry exit (bookIn s))

@@ -1,18 +1,38 @@
 -- The numbers that a block raises: where underdrawn energy goes, and the totals one list after the other. Assumes nothing.
 use Prim.Native.Nat.{ℕ, _+_, _*_, _≤_, _<_}
-use mathlib.Core.Path.{_≡_, sym, ap, _∙_}
+use mathlib.Core.Path.{_≡_, refl, sym, ap, _∙_}
 use mathlib.Core.Bool.{Bool, true, false}
 use mathlib.Core.List.{List}
 use native.Mathlib.Omega.{arith}
 use borrow.Author.Tests.{eq-eqb, ne-eqb}
 use lib.Dec.{eqb}
-use lib.ListN.{length, getD}
+use lib.ListN.{length, getD, set}
 use Rattle.lists.specs.Choice.{if_then_else_}
 use Rattle.codec.specs.Bytes.{decode}
+use Rattle.record.specs.Words.{recordOf}
+use Rattle.record.specs.declared.Counts.{Counts}
+use Rattle.layout_rules.specs.Places.{counts-places}
 use Rattle.layout_rules.specs.Raised.{from, raised-other}
 use Rattle.raising.specs.Raise.{rowSum, columnSum, Raised, Raisable}
-use Rattle.raising.specs.RaiseLaws.{not-raised}
+use Rattle.raising.specs.RaiseLaws.{none-raised, one-more, not-raised}
 use Rattle.block_totals.specs.Totals.{underdrawnPlace, fourRaised, generatorsRaised, consumersRaised}
+
+-- ---- the counts, raised by what was read of them
+
+module _ (s : List ℕ) {counts : Counts} (e : counts ≡ recordOf (decode 8 719 s) .counts) where
+  pub blocks-at : counts .blocks ≡ getD (decode 8 719 s) 5 0
+  blocks-at = ap (λ (n : Counts). n .blocks) (e ∙ counts-places (decode 8 719 s))
+
+  pub month-at : counts .month ≡ getD (decode 8 719 s) 6 0
+  month-at = ap (λ (n : Counts). n .month) (e ∙ counts-places (decode 8 719 s))
+
+  pub counts-raised : (t : List ℕ) {u : List ℕ} → length t ≡ length s → length u ≡ length t →
+      decode 8 719 t ≡ set (decode 8 719 s) 5 (counts .blocks + 1) → decode 8 719 u ≡ set (decode 8 719 t) 6 (counts .month + 1) → Raised (from 5) 2 (λ i. 1) s u
+  counts-raised t size size′ d d′ =
+      let one : Raised (from 5) 1 (λ i. 1) s t = one-more none-raised refl size (rw blocks-at at d) in
+      one-more one refl size′ (rw (month-at ∙ sym (not-raised 6 one (λ j l x. omega arith))) at d′)
+
+-- ---- where underdrawn energy goes
 
 module _ (ws : List ℕ) (g : ℕ) {kind : ℕ} (e : kind ≡ getD ws (7 + g * 3) 0) where
   pub inadvertent-place : kind ≡ 0 → underdrawnPlace ws g ≡ 575 + g

@@ -7,11 +7,13 @@ ghost use Rattle.energy.specs.Limits.{mostFigure};
 ghost use Rattle.arrays.specs.Bounds.{Moderate};
 ghost use Rattle.codec.specs.Bytes.{encode, decode};
 ghost use Rattle.record.specs.Stored.{stored};
-ghost use Rattle.record.specs.Words.{words};
+ghost use Rattle.record.specs.Words.{words, recordOf};
 ghost use Rattle.block_rules.specs.Block.{entryOf, exitOf, afterBlock};
 ghost use Rattle.layout_rules.specs.OnBytes.{bookIn};
+ghost use Rattle.layout_rules.specs.Raised.{from};
 ghost use Rattle.raising.specs.Raise.{rowSum, Raised, mostRaised, Raisable};
 ghost use Rattle.block_totals.specs.Totals.{underdrawnPlace, generatorsRaised, consumersRaised, BlockLists, Settled};
+use record::Counts;
 
 fn underdrawn_place(s: &[u8], g: usize) -> usize
     requires { ⌜ (length (now s) ≡ 5752) × (g < 8) ⌝ }
@@ -59,13 +61,29 @@ fn raise_consumers(s: &mut [u8], exit: &[u32], out: &[u64], n: usize, m: usize)
     raising::raise_numbers(s, layout_rules::OUTSTANDING, out, 4 * size + n, m);
 }
 
+// One block more of the unit and of the month than was read.
+fn raise_counts(s: &mut [u8], counts: Counts)
+    requires { ⌜ Raisable 5 2 mostFigure (now s) × (counts ≡ recordOf (decode 8 719 (now s)) .counts) ⌝ }
+    ensures { λ _. ⌜ Raised (from 5) 2 (λ i. 1) (now (s .entry)) (now (s .exit)) ⌝ }
+{
+    in_place::put_at(s, layout_rules::BLOCKS, counts.blocks + 1);
+    in_place::put_at(s, layout_rules::MONTH, counts.month + 1);
+}
+
 // The record after a block whose lists stand in `out`.
-pub fn raise(s: &mut [u8], n: usize, m: usize, entry: &[u32], exit: &[u32], out: &[u64])
-    requires { ⌜ Settled (now s) n m (now entry) (now exit) (now out) ⌝ }
+pub fn raise(
+    s: &mut [u8],
+    n: usize,
+    m: usize,
+    counts: Counts,
+    entry: &[u32],
+    exit: &[u32],
+    out: &[u64],
+)
+    requires { ⌜ Settled (now s) n m counts (now entry) (now exit) (now out) ⌝ }
     ensures { λ _. ⌜ now (s .exit) ≡ encode 8 (words (stored (afterBlock (bookIn (now (s .entry))) (entryOf (now (entry .entry)) (now (exit .entry)) (bookIn (now (s .entry)))) (exitOf (now (entry .entry)) (now (exit .entry)) (bookIn (now (s .entry))))))) ⌝ }
 {
-    in_place::add_at(s, layout_rules::BLOCKS, 1);
-    in_place::add_at(s, layout_rules::MONTH, 1);
+    raise_counts(s, counts);
     raise_generators(s, entry, out, n, m);
     raise_consumers(s, exit, out, n, m);
 }

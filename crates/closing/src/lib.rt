@@ -6,18 +6,19 @@ ghost use Rattle.codec.specs.Bytes.{decode};
 ghost use Rattle.record.specs.Called.{numberOn};
 ghost use Rattle.record.specs.Words.{recordOf};
 ghost use Rattle.layout_rules.specs.OnBytes.{CalledOn};
+ghost use Rattle.layout_rules.specs.Head.{HeadRead};
 ghost use Rattle.closing_rules.specs.Closing.{closingRule, Closed};
 use record::Answer;
+use record::Counts;
 use record::Record;
+use record::Terms;
 
-// The number of a closing on the record that the bytes hold.
-fn refusal_on(s: &[u8], size: usize) -> u32
-    requires { ⌜ length (now s) ≡ 5752 ⌝ }
+// The number of a closing on the record that the bytes hold, with its terms and counts.
+fn refusal_on(s: &[u8], terms: Terms, counts: Counts, size: usize) -> u32
+    requires { ⌜ HeadRead (now s) terms counts ⌝ }
     ensures { λ x. ⌜ x ≡ numberOn (closingRule size) (recordOf (decode 8 719 (now (s .entry)))) ⌝ }
 {
-    if soundness::is_sound(s) {
-        let terms = loading::load_terms(s);
-        let counts = loading::load_counts(s);
+    if soundness::is_sound(s, terms, counts) {
         let n = terms.generators as usize;
         let m = terms.consumers as usize;
         closing_refusal::refusal(n, m, counts.month, size)
@@ -32,7 +33,9 @@ pub fn close_on(s: &mut [u8], out: &mut [u64]) -> u32
     requires { ⌜ length (now s) ≡ 5752 ⌝ }
     ensures { λ r. ⌜ CalledOn (closingRule (length (now (out .entry)))) (now (s .entry)) (now (out .entry)) r (now (s .exit)) (now (out .exit)) ⌝ }
 {
-    let number = refusal_on(s, out.len());
+    let terms = loading::load_terms(s);
+    let counts = loading::load_counts(s);
+    let number = refusal_on(s, terms, counts, out.len());
     if number == 0 {
         closing_lists::make(s, out);
         closing_totals::enter(s, out);

@@ -3,6 +3,7 @@ pub mod LayoutLaws
 pub mod Places
 pub mod OnBytes
 pub mod OnBytesLaws
+pub mod Head
 pub mod Kept
 pub mod Raised
 pub mod Replaced

@@ -18,14 +18,15 @@ use Rattle.record.specs.Stored.{planOf, figures, stored}
 use Rattle.record.specs.Words.{runLengths, total, words, cut, fromRuns, recordOf}
 use Rattle.record.specs.declared.Record.{Record}
 use Rattle.record.specs.declared.Terms.{Terms}
+use Rattle.record.specs.declared.Counts.{Counts}
 use Rattle.record.specs.declared.Agreed.{Agreed}
 use Rattle.record.specs.declared.Links.{Links}
 use Rattle.layout_rules.specs.Kept.{record-shape}
 use Rattle.layout_rules.specs.Layout.{run, links-at}
 use Rattle.layout_rules.specs.LayoutLaws.{bytes-of-record}
+use Rattle.layout_rules.specs.Head.{HeadRead}
 use Rattle.layout_rules.specs.OnBytes.{recordIn, CalledOn, bookIn}
 use Rattle.layout_rules.specs.OnBytesLaws.{on-accepted, on-refused}
-use Rattle.layout_rules.specs.Places.{terms-places}
 use Rattle.layout_rules.specs.Raised.{from}
 use Rattle.layout_rules.specs.Replaced.{replaced, list-replaced}
 use Rattle.agreement_rules.specs.Reading.{RowsAt}
@@ -36,6 +37,7 @@ use Rattle.agreement_rules.specs.ScheduleLaws.{Schedulable, accepted-schedulabl
 use Rattle.agreement_rules.specs.Storing.{scheduleFrom, withSchedule}
 use Rattle.agreement_rules.specs.StoringLaws.{scheduled-record}
 use Rattle.raising.specs.Raise.{Replaced}
+use Rattle.schedule.specs.Accepted.{Accepted}
 
 -- a pair list is what stands at its 128 places
 whole-list : (n m : ℕ) (xs : List ℕ) → table 128 (λ i. getD (pairs 8 16 (cell n m xs)) i 0) ≡ pairs 8 16 (cell n m xs)
@@ -57,60 +59,57 @@ module _ (s kws ranks : List ℕ) where
 
   -- ---- an accepted schedule
 
-  module _ (z : numberOn (scheduleRule kws ranks) r ≡ 0) where
+  pub accepted-here : {t : Terms} {n : Counts} → HeadRead s t n → numberOn (scheduleRule kws ranks) r ≡ 0 → Accepted s (t .generators) (t .consumers) kws ranks
+  accepted-here h z =
+      record { whole = h .whole; n-is = ap (λ (t : Terms). t .generators) (h .terms-are); m-is = ap (λ (t : Terms). t .consumers) (h .terms-are); number-is = z }
+
+  module _ {n m : ℕ} (h : Accepted s n m kws ranks) where
     sound-is : sound (figures r) ≡ true
-    sound-is = accepted-sound (scheduleRule kws ranks) r z
+    sound-is = accepted-sound (scheduleRule kws ranks) r (h .number-is)
 
     schedulable : Schedulable kws ranks (figures r)
     unfolding scheduleRule
-    schedulable = accepted-schedulable kws ranks (figures r) (sym (number-sound (scheduleRule kws ranks) r sound-is) ∙ z)
+    schedulable = accepted-schedulable kws ranks (figures r) (sym (number-sound (scheduleRule kws ranks) r sound-is) ∙ h .number-is)
 
-    module _ {n m : ℕ} (n-read : n ≡ getD ws 0 0) (m-read : m ≡ getD ws 1 0) where
-      n-is : n ≡ r .terms .generators
-      n-is = n-read ∙ ap (λ (t : Terms). t .generators) (sym (terms-places ws))
+    rows : (xs : List ℕ) → length xs ≡ r .terms .generators * r .terms .consumers → RowsAt xs 0 n m
+    unfolding figures planOf
+    rows xs size =
+        let counts = record-facts r sound-is .counts in
+        rw (h .n-is, h .m-is) (record { fits = omega arith; few-rows = counts .G-high; few = counts .C-high })
 
-      m-is : m ≡ r .terms .consumers
-      m-is = m-read ∙ ap (λ (t : Terms). t .consumers) (sym (terms-places ws))
+    pub kw-rows : RowsAt kws 0 n m
+    unfolding figures planOf
+    kw-rows = rows kws (schedulable .kws-size)
 
-      rows : (xs : List ℕ) → length xs ≡ r .terms .generators * r .terms .consumers → RowsAt xs 0 n m
-      unfolding figures planOf
-      rows xs size =
-          let counts = record-facts r sound-is .counts in
-          rw (n-is, m-is) (record { fits = omega arith; few-rows = counts .G-high; few = counts .C-high })
+    pub rank-rows : RowsAt ranks 0 n m
+    unfolding figures planOf
+    rank-rows = rows ranks (schedulable .ranks-size)
 
-      pub kw-rows : RowsAt kws 0 n m
-      unfolding figures planOf
-      kw-rows = rows kws (schedulable .kws-size)
+    abbrev kw : List ℕ
+    kw = pairs 8 16 (cell n m kws)
 
-      pub rank-rows : RowsAt ranks 0 n m
-      unfolding figures planOf
-      rank-rows = rows ranks (schedulable .ranks-size)
+    abbrev rank : List ℕ
+    rank = pairs 8 16 (cell n m ranks)
 
-      abbrev kw : List ℕ
-      kw = pairs 8 16 (cell n m kws)
+    shape : Shape r
+    shape = record-shape ws (length-decode 8 719 s)
 
-      abbrev rank : List ℕ
-      rank = pairs 8 16 (cell n m ranks)
+    runs-after : cut runLengths (replaced (from 415) 128 (λ i. getD rank i 0) (replaced (from 287) 128 (λ i. getD kw i 0) ws)) ≡ set (set (cut runLengths ws) 4 kw) 5 rank
+    unfolding recordOf fromRuns runLengths cut total
+    runs-after =
+        let one = list-replaced 128 128 ws 4 (r .schedule .kw) (λ i. getD kw i 0) (λ i. getD kw i 0) (omega arith) refl (shape .schedule .kw) refl refl (λ i l. refl) (λ i h l. absurd (omega arith)) in
+        list-replaced 128 128 _ 5 (r .schedule .rank) (λ i. getD rank i 0) (λ i. getD rank i 0) (omega arith) refl (shape .schedule .rank) one refl (λ i l. refl) (λ i h l. absurd (omega arith)) ∙
+        rw (whole-list n m kws, whole-list n m ranks)
 
-      shape : Shape r
-      shape = record-shape ws (length-decode 8 719 s)
+    record-after : recordOf (replaced (from 415) 128 (λ i. getD rank i 0) (replaced (from 287) 128 (λ i. getD kw i 0) ws)) ≡ stored (afterSchedule kws ranks (figures r))
+    unfolding recordOf fromRuns runLengths cut withSchedule scheduleFrom
+    record-after = ap fromRuns runs-after ∙ rw (h .n-is, h .m-is) (scheduled-record r shape kws ranks)
 
-      runs-after : cut runLengths (replaced (from 415) 128 (λ i. getD rank i 0) (replaced (from 287) 128 (λ i. getD kw i 0) ws)) ≡ set (set (cut runLengths ws) 4 kw) 5 rank
-      unfolding recordOf fromRuns runLengths cut total
-      runs-after =
-          let one = list-replaced 128 128 ws 4 (r .schedule .kw) (λ i. getD kw i 0) (λ i. getD kw i 0) (omega arith) refl (shape .schedule .kw) refl refl (λ i l. refl) (λ i h l. absurd (omega arith)) in
-          list-replaced 128 128 _ 5 (r .schedule .rank) (λ i. getD rank i 0) (λ i. getD rank i 0) (omega arith) refl (shape .schedule .rank) one refl (λ i l. refl) (λ i h l. absurd (omega arith)) ∙
-          rw (whole-list n m kws, whole-list n m ranks)
-
-      record-after : recordOf (replaced (from 415) 128 (λ i. getD rank i 0) (replaced (from 287) 128 (λ i. getD kw i 0) ws)) ≡ stored (afterSchedule kws ranks (figures r))
-      unfolding recordOf fromRuns runLengths cut withSchedule scheduleFrom
-      record-after = ap fromRuns runs-after ∙ rw (n-is, m-is) (scheduled-record r shape kws ranks)
-
-      -- the bytes in which both lists are replaced are those of the record that the rules store
-      pub bytes-after : {t u : List ℕ} → Replaced (from 287) 128 (λ i. getD kw i 0) s t → Replaced (from 415) 128 (λ i. getD rank i 0) t u → length u ≡ 5752 → Below 256 u →
-          u ≡ encode 8 (words (stored (afterSchedule kws ranks (bookIn s))))
-      bytes-after {t} {u} one two size low =
-          sym (bytes-of-record u size low) ∙ rw (two .is, one .is) (ap (λ (x : Record). encode 8 (words x)) record-after)
+    -- the bytes in which both lists are replaced are those of the record that the rules store
+    pub bytes-after : {t u : List ℕ} → Replaced (from 287) 128 (λ i. getD kw i 0) s t → Replaced (from 415) 128 (λ i. getD rank i 0) t u → length u ≡ 5752 → Below 256 u →
+        u ≡ encode 8 (words (stored (afterSchedule kws ranks (bookIn s))))
+    bytes-after {t} {u} one two size low =
+        sym (bytes-of-record u size low) ∙ rw (two .is, one .is) (ap (λ (x : Record). encode 8 (words x)) record-after)
 
   -- ---- the call
 

@@ -9,18 +9,21 @@ ghost use Rattle.record.specs.Called.{numberOn};
 ghost use Rattle.record.specs.Stored.{stored};
 ghost use Rattle.record.specs.Words.{words, recordOf};
 ghost use Rattle.layout_rules.specs.OnBytes.{CalledOn, bookIn};
+ghost use Rattle.layout_rules.specs.Head.{HeadRead};
 ghost use Rattle.layout_rules.specs.Raised.{from};
 ghost use Rattle.agreement_rules.specs.Reading.{RowsAt};
 ghost use Rattle.agreement_rules.specs.Schedule.{afterSchedule, scheduleRule, Scheduled};
 ghost use Rattle.raising.specs.Raise.{Replaced, Replaceable};
+ghost use Rattle.schedule.specs.Accepted.{Accepted};
+use record::Counts;
+use record::Terms;
 
-// The number of a schedule on the record that the bytes hold.
-fn refusal_on(s: &[u8], kws: &[u32], ranks: &[u32]) -> u32
-    requires { ⌜ length (now s) ≡ 5752 ⌝ }
+// The number of a schedule on the record that the bytes hold, with its terms and counts.
+fn refusal_on(s: &[u8], terms: Terms, counts: Counts, kws: &[u32], ranks: &[u32]) -> u32
+    requires { ⌜ HeadRead (now s) terms counts ⌝ }
     ensures { λ x. ⌜ x ≡ numberOn (scheduleRule (now (kws .entry)) (now (ranks .entry))) (recordOf (decode 8 719 (now (s .entry)))) ⌝ }
 {
-    if soundness::is_sound(s) {
-        let terms = loading::load_terms(s);
+    if soundness::is_sound(s, terms, counts) {
         let agreed = loading::load_agreed(s);
         let link = loading::load_pairs(s, layout_rules::LINK);
         let n = terms.generators as usize;
@@ -41,12 +44,10 @@ fn put_list(s: &mut [u8], at: usize, list: &[u32], n: usize, m: usize)
 }
 
 // Puts an accepted schedule in the former one's place.
-fn replace_schedule(s: &mut [u8], kws: &[u32], ranks: &[u32])
-    requires { ⌜ (length (now s) ≡ 5752) × (numberOn (scheduleRule (now kws) (now ranks)) (recordOf (decode 8 719 (now s))) ≡ 0) ⌝ }
+fn replace_schedule(s: &mut [u8], n: usize, m: usize, kws: &[u32], ranks: &[u32])
+    requires { ⌜ Accepted (now s) n m (now kws) (now ranks) ⌝ }
     ensures { λ _. ⌜ now (s .exit) ≡ encode 8 (words (stored (afterSchedule (now (kws .entry)) (now (ranks .entry)) (bookIn (now (s .entry)))))) ⌝ }
 {
-    let n = in_place::number_at(s, layout_rules::GENERATOR_COUNT) as usize;
-    let m = in_place::number_at(s, layout_rules::CONSUMER_COUNT) as usize;
     put_list(s, layout_rules::KW, kws, n, m);
     put_list(s, layout_rules::RANK, ranks, n, m);
 }
@@ -56,9 +57,13 @@ pub fn schedule_on(s: &mut [u8], kws: &[u32], ranks: &[u32]) -> u32
     requires { ⌜ length (now s) ≡ 5752 ⌝ }
     ensures { λ r. ⌜ CalledOn (scheduleRule (now (kws .entry)) (now (ranks .entry))) (now (s .entry)) [] r (now (s .exit)) [] ⌝ }
 {
-    let number = refusal_on(s, kws, ranks);
+    let terms = loading::load_terms(s);
+    let counts = loading::load_counts(s);
+    let number = refusal_on(s, terms, counts, kws, ranks);
     if number == 0 {
-        replace_schedule(s, kws, ranks);
+        let n = terms.generators as usize;
+        let m = terms.consumers as usize;
+        replace_schedule(s, n, m, kws, ranks);
         return 0;
     }
     number

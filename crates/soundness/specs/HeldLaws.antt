@@ -23,6 +23,7 @@ use Rattle.record.specs.declared.GeneratorTerms.{GeneratorTerms}
 use Rattle.record.specs.declared.ConsumerTerms.{ConsumerTerms}
 use Rattle.layout_rules.specs.Places as places
 use Rattle.layout_rules.specs.OnBytes.{recordIn}
+use Rattle.layout_rules.specs.Head.{HeadRead}
 use Rattle.soundness.specs.Held.{pairHeld}
 
 -- the numbers of the bytes s
@@ -30,7 +31,7 @@ abbrev at : List ℕ → ℕ → ℕ
 at s k = getD (decode 8 719 s) k 0
 
 -- the record with its terms and counts read apart
-parts-read : (s : List ℕ) {terms : Terms} {counts : Counts} → terms ≡ recordOf (decode 8 719 s) .terms → counts ≡ recordOf (decode 8 719 s) .counts →
+parts-read : {s : List ℕ} {terms : Terms} {counts : Counts} → HeadRead s terms counts →
     record {
       terms = terms;
       counts = counts;
@@ -40,9 +41,9 @@ parts-read : (s : List ℕ) {terms : Terms} {counts : Counts} → terms ≡ reco
       generators = recordOf (decode 8 719 s) .generators;
       consumers = recordOf (decode 8 719 s) .consumers;
     } ≡ recordOf (decode 8 719 s)
-parts-read s e f =
+parts-read {s} h =
     let r = recordOf (decode 8 719 s) in
-    λ i. record { terms = e i; counts = f i; agreed = r .agreed; links = r .links; schedule = r .schedule; generators = r .generators; consumers = r .consumers }
+    λ i. record { terms = h .terms-are i; counts = h .counts-are i; agreed = r .agreed; links = r .links; schedule = r .schedule; generators = r .generators; consumers = r .consumers }
 
 -- a sound pair beyond the agreement has no kW
 none : (link loss k rank : ℕ) → pairSound false link loss k rank ≡ true → k ≡ 0
@@ -159,16 +160,16 @@ module _ (s : List ℕ) where
       go true p = ap (λ (x : Bool). x && true) (all-same 8 _ _ (λ g l. same g l (sym p) (ltb g G) refl))
 
   -- the tests of the parts make up the test of the record, its terms and counts being read apart
-  pub sound-held : {terms : Terms} {counts : Counts} {a b c d : Bool} → terms ≡ recordOf (decode 8 719 s) .terms → counts ≡ recordOf (decode 8 719 s) .counts → countsTest terms counts ≡ true →
+  pub sound-held : {terms : Terms} {counts : Counts} {a b c d : Bool} → HeadRead s terms counts → countsTest terms counts ≡ true →
       a ≡ all 8 (λ g. agreedTest (recordIn s .agreed) (recordIn s .schedule .kw) (terms .generators) (limit (ltb g (terms .generators)) (terms .consumers)) g) →
       b ≡ all 8 (λ g. all 16 (pairTest (recordIn s .links .link) (recordIn s .links .loss) (recordIn s .schedule .kw) (recordIn s .schedule .rank) (terms .generators) (terms .consumers) g)) →
       c ≡ all 8 (generatorTest (recordIn s .generators) (terms .generators) (counts .blocks)) →
       d ≡ all 16 (consumerTest (recordIn s .consumers) (terms .consumers) (counts .blocks)) →
       (a && b && c && d) ≡ sound (figures (recordOf (decode 8 719 s)))
   unfolding recordIn
-  sound-held {c = c} {d = d} e f h p q x y =
-      ap (λ (t : Bool). t && c && d) (rows-within _ _ p q (counts-fit _ _ h .consumers-fit)) ∙ sound-by-parts _ h refl q x y ∙ ap (λ (r : Record). sound (figures r)) (parts-read s e f)
+  sound-held {c = c} {d = d} e h p q x y =
+      ap (λ (t : Bool). t && c && d) (rows-within _ _ p q (counts-fit _ _ h .consumers-fit)) ∙ sound-by-parts _ h refl q x y ∙ ap (λ (r : Record). sound (figures r)) (parts-read e)
 
-  pub unsound-held : {terms : Terms} {counts : Counts} → terms ≡ recordOf (decode 8 719 s) .terms → counts ≡ recordOf (decode 8 719 s) .counts → countsTest terms counts ≡ false →
+  pub unsound-held : {terms : Terms} {counts : Counts} → HeadRead s terms counts → countsTest terms counts ≡ false →
       false ≡ sound (figures (recordOf (decode 8 719 s)))
-  unsound-held e f h = unsound-counts _ (rw (e, f) at h)
+  unsound-held e h = unsound-counts _ (rw (e .terms-are, e .counts-are) at h)

@@ -15,10 +15,13 @@ ghost use Rattle.record.specs.Sound.{limit, sound};
 ghost use Rattle.sound_totals.specs.Capped.{RowTotal};
 ghost use Rattle.sound_items.specs.SoundTests.{agreedTest, pairTest, generatorRead, generatorTest, consumerRead, consumerTest};
 ghost use Rattle.layout_rules.specs.OnBytes.{recordIn};
+ghost use Rattle.layout_rules.specs.Head.{HeadRead};
 ghost use Rattle.soundness.specs.Held.{pairHeld};
 use record::ConsumerTerms;
+use record::Counts;
 use record::GeneratorTerms;
 use record::Record;
+use record::Terms;
 
 // The kW of generator g for the first n consumers, each capped.
 fn row_total(s: &[u8], g: usize, n: usize) -> u64
@@ -192,13 +195,11 @@ fn consumers_sound(s: &[u8], m: usize, blocks: u64) -> bool
     ok
 }
 
-// The test of the record that the bytes hold.
-pub fn is_sound(s: &[u8]) -> bool
-    requires { ⌜ length (now s) ≡ 5752 ⌝ }
+// The test of the record that the bytes hold, with its terms and counts.
+pub fn is_sound(s: &[u8], terms: Terms, counts: Counts) -> bool
+    requires { ⌜ HeadRead (now s) terms counts ⌝ }
     ensures { λ b. ⌜ b ≡ sound (figures (recordOf (decode 8 719 (now (s .entry))))) ⌝ }
 {
-    let terms = loading::load_terms(s);
-    let counts = loading::load_counts(s);
     if sound_items::counts_sound(terms, counts) {
         let n = terms.generators as usize;
         let m = terms.consumers as usize;
@@ -218,5 +219,5 @@ pub fn is_sound_record(r: Record) -> bool
 {
     let mut bytes = [0u8; 5752];
     storing::store(r, &mut bytes);
-    is_sound(&bytes)
+    is_sound(&bytes, r.terms, r.counts)
 }

@@ -5,46 +5,51 @@ use borrow.Author.Needs.{needs}
 use Rattle.codec.specs.Bytes.{decode}
 use Rattle.record.specs.Called.{numberOn}
 use Rattle.record.specs.Words.{recordOf}
+use Rattle.layout_rules.specs.Head.{HeadRead}
 use Rattle.block_rules.specs.Block.{blockRule}
 use Rattle.block.specs.Ready.{ready, ranked, exits, sized, delivered-sized, settled, block-accepted, block-refused}
 use Rattle.block.proofs.block_on.Statement.{statement}
 use Rattle.block.proofs.block_on.Tie as tie
 
+load-terms-requires : tie.Need-load-terms-requires
+load-terms-requires c κs = search needs
+
+load-counts-requires : tie.Need-load-counts-requires
+load-counts-requires c κs = search needs
+
 refusal-on-requires : tie.Need-refusal-on-requires
 refusal-on-requires c κs = search needs
 
--- the call is accepted, in the first branch
-accepted : (c : tie.Then1) → let a = c .before .before .before .before .before .before .before .args in numberOn (blockRule (a .entry .now) (a .exit .now) (length (a .out .now))) (recordOf (decode 8 719 (a .s .now))) ≡ 0
+-- in the first branch: what was read, and that the call is accepted
+head : (c : tie.Then1) →
+    let counts = c .before .before .before in
+    let terms = counts .before .before in
+    let known = terms .before .before in
+    HeadRead (known .before .before .before .before .args .s .now) (terms .load-terms .result) (counts .load-counts .result)
+head c = search needs
+
+accepted : (c : tie.Then1) →
+    let terms = c .before .before .before .before .before in
+    let known = terms .before .before in
+    let a = known .before .before .before .before .args in
+    numberOn (blockRule (a .entry .now) (a .exit .now) (length (a .out .now))) (recordOf (decode 8 719 (a .s .now))) ≡ 0
 accepted c = sym (c .before .refusal-on .ensures) ∙ c .if1 .taken
 
-number-at-requires : tie.Need-number-at-requires
-number-at-requires c κs = search needs
-
-number-at-requires-2 : tie.Need-number-at-requires-2
-number-at-requires-2 c κs = search needs
-
 deliver-requires : tie.Need-deliver-requires
-deliver-requires c κs =
-    let t = c .before .before .before .before .before .before in
-    let whole = t .before .before .before .before .before .before .before .pre in
-    let z = accepted t in
-    let n = c .before .before .before .before .number-at .ensures in
-    let m = c .before .before .number-at2 .ensures in
-    (ready _ _ _ _ _ _ whole z n m, sized _ _ _ _ _ _ whole z n m)
+deliver-requires c κs = let t = c .before .before in (ready _ _ _ _ (head t) (accepted t), sized _ _ _ _ (head t) (accepted t))
 
 settle-all-requires : tie.Need-settle-all-requires
 settle-all-requires c κs =
-    let t = c .before .before .before .before .before .before .before .before .before .before .before in
-    let whole = t .before .before .before .before .before .before .before .pre in
-    let z = accepted t in
-    let n = c .before .before .before .before .before .before .before .before .before .number-at .ensures in
-    let m = c .before .before .before .before .before .before .before .number-at2 .ensures in
-    (ranked _ _ _ _ _ _ whole z n m, (exits _ _ _ _ _ _ whole z n m, delivered-sized _ _ _ _ _ _ whole z n m (c .before .before .before .before .deliver .ensures)))
+    let delivery = c .before .before .before .before in
+    let t = delivery .before .before .before in
+    (ranked _ _ _ _ (head t) (accepted t), (exits _ _ _ _ (head t) (accepted t), delivered-sized _ _ _ _ (head t) (accepted t) (delivery .deliver .ensures)))
 
 raise-requires : tie.Need-raise-requires
 raise-requires c κs =
-    let t = c .before .before .before .before .before .before .before .before .before .before .before .before .before .before .before .before in
-    settled _ _ _ _ _ _ (t .before .before .before .before .before .before .before .pre) (accepted t) (c .before .before .before .before .before .before .before .before .before .before .before .before .before .before .number-at .ensures) (c .before .before .before .before .before .before .before .before .before .before .before .before .number-at2 .ensures) (c .before .before .before .before .settle-all .ensures _ (c .before .before .before .before .before .before .before .before .before .deliver .ensures))
+    let settlement = c .before .before .before .before in
+    let delivery = settlement .before .before .before .before .before in
+    let t = delivery .before .before .before in
+    settled _ _ _ _ (head t) (accepted t) (settlement .settle-all .ensures _ (delivery .deliver .ensures))
 
 same-length : tie.Need-same-length
 same-length c = search needs
@@ -53,7 +58,11 @@ same-length-2 : tie.Need-same-length-2
 same-length-2 c = search needs
 
 returns : tie.Need-returns
-returns c = block-accepted _ _ _ _ (accepted (c .before .before .before .before .before .before .before .before .before .before .before .before .before .before .before .before .before .before .before)) (c .before .before .raise .ensures) (c .before .before .before .before .before .before .before .settle-all .ensures _ (c .before .before .before .before .before .before .before .before .before .before .before .before .deliver .ensures))
+returns c =
+    let totals = c .before .before in
+    let settlement = totals .before .before .before .before .before in
+    let delivery = settlement .before .before .before .before .before in
+    block-accepted _ _ _ _ (accepted (delivery .before .before .before)) (totals .raise .ensures) (settlement .settle-all .ensures _ (delivery .deliver .ensures))
 
 same-length-3 : tie.Need-same-length-3
 same-length-3 c = search needs
@@ -65,9 +74,9 @@ pub block-on-spec : {M : Type 1} → statement M
 block-on-spec =
     tie.close
     (tie.spec
+    load-terms-requires
+    load-counts-requires
     refusal-on-requires
-    number-at-requires
-    number-at-requires-2
     deliver-requires
     settle-all-requires
     raise-requires

@@ -17,18 +17,13 @@ is-sound-requires c κs = search needs
 passed : (c : tie.Then1) → sound (figures (recordOf (decode 8 719 (c .before .before .before .before .before .args .s .now)))) ≡ true
 passed c = sym (c .before .is-sound .ensures) ∙ c .if1 .taken
 
-load-terms-requires : tie.Need-load-terms-requires
-load-terms-requires c κs = search needs
-
-load-counts-requires : tie.Need-load-counts-requires
-load-counts-requires c κs = search needs
-
 refusal-requires : tie.Need-refusal-requires
-refusal-requires c κs = terms-few _ (c .before .load-terms .ensures) (passed (c .before .before))
+refusal-requires c κs = terms-few _ (c .before .before .before .before .before .pre .terms-are) (passed c)
 
 returns : tie.Need-returns
 returns c =
-    c .refusal .ensures ∙ record-refusal _ _ _ _ (c .before .before .load-terms .ensures) (c .before .load-counts .ensures) (passed (c .before .before .before))
+    let head = c .before .before .before .before .before .before .pre in
+    c .refusal .ensures ∙ record-refusal _ _ _ _ (head .terms-are) (head .counts-are) (passed (c .before))
 
 returns-2 : tie.Need-returns-2
 returns-2 c = sym (number-unsound _ _ (sym (c .before .is-sound .ensures) ∙ c .if1 .left))
@@ -38,8 +33,6 @@ refusal-on-spec =
     tie.close
     (tie.spec
     is-sound-requires
-    load-terms-requires
-    load-counts-requires
     refusal-requires
     returns
     returns-2)

@@ -10,18 +10,29 @@ use Rattle.closing.specs.Ready.{listed, closing-accepted, closing-refuse
 use Rattle.closing.proofs.close_on.Statement.{statement}
 use Rattle.closing.proofs.close_on.Tie as tie
 
+load-terms-requires : tie.Need-load-terms-requires
+load-terms-requires c κs = search needs
+
+load-counts-requires : tie.Need-load-counts-requires
+load-counts-requires c κs = search needs
+
 refusal-on-requires : tie.Need-refusal-on-requires
-refusal-on-requires c κs = c .before .before .before .pre
+refusal-on-requires c κs = search needs
 
 -- the call is accepted, in the first branch
-accepted : (c : tie.Then1) → let a = c .before .before .before .before .before .args in numberOn (closingRule (length (a .out .now))) (recordOf (decode 8 719 (a .s .now))) ≡ 0
+accepted : (c : tie.Then1) →
+    let terms = c .before .before .before .before .before in
+    let a = terms .before .before .before .before .args in
+    numberOn (closingRule (length (a .out .now))) (recordOf (decode 8 719 (a .s .now))) ≡ 0
 accepted c = sym (c .before .refusal-on .ensures) ∙ c .if1 .taken
 
 make-requires : tie.Need-make-requires
-make-requires c κs = (c .before .before .before .before .before .before .before .pre, accepted (c .before .before))
+make-requires c κs = (search needs, accepted (c .before .before))
 
 enter-requires : tie.Need-enter-requires
-enter-requires c κs = listed _ _ (c .before .before .before .before .before .before .before .before .before .before .before .before .pre) (accepted (c .before .before .before .before .before .before .before)) (c .before .before .before .before .make .ensures)
+enter-requires c κs =
+    let lists = c .before .before .before .before in
+    listed _ _ (search needs) (accepted (lists .before .before .before)) (lists .make .ensures)
 
 same-length : tie.Need-same-length
 same-length c = search needs
@@ -30,7 +41,10 @@ same-length-2 : tie.Need-same-length-2
 same-length-2 c = search needs
 
 returns : tie.Need-returns
-returns c = closing-accepted _ _ (accepted (c .before .before .before .before .before .before .before .before .before .before)) (c .before .before .enter .ensures) (c .before .before .before .before .before .before .before .make .ensures)
+returns c =
+    let totals = c .before .before in
+    let lists = totals .before .before .before .before .before in
+    closing-accepted _ _ (accepted (lists .before .before .before)) (totals .enter .ensures) (lists .make .ensures)
 
 same-length-3 : tie.Need-same-length-3
 same-length-3 c = search needs
@@ -42,6 +56,8 @@ pub close-on-spec : {M : Type 1} → statement M
 close-on-spec =
     tie.close
     (tie.spec
+    load-terms-requires
+    load-counts-requires
     refusal-on-requires
     make-requires
     enter-requires

@@ -17,9 +17,6 @@ is-sound-requires c κs = search needs
 passed : (c : tie.Then1) → sound (figures (recordOf (decode 8 719 (c .before .before .before .before .before .args .s .now)))) ≡ true
 passed c = sym (c .before .is-sound .ensures) ∙ c .if1 .taken
 
-load-terms-requires : tie.Need-load-terms-requires
-load-terms-requires c κs = search needs
-
 load-agreed-requires : tie.Need-load-agreed-requires
 load-agreed-requires c κs = search needs
 
@@ -27,14 +24,14 @@ load-pairs-requires : tie.Need-load-pairs-requires
 load-pairs-requires c κs = search needs
 
 refusal-requires : tie.Need-refusal-requires
-refusal-requires c κs = let terms = c .before .before .before in terms-few _ (terms .load-terms .ensures) (passed (terms .before))
+refusal-requires c κs = let t = c .before .before .before in terms-few _ (t .before .before .before .before .before .pre .terms-are) (passed t)
 
 returns : tie.Need-returns
 returns c =
     let pairs = c .before .before in
     let agreed = pairs .before in
-    let terms = agreed .before in
-    number-read _ _ _ (passed (terms .before)) (terms .load-terms .ensures) (agreed .load-agreed .ensures) (pairs .load-pairs .ensures) (c .refusal .ensures)
+    let t = agreed .before in
+    number-read _ _ _ (passed t) (t .before .before .before .before .before .pre .terms-are) (agreed .load-agreed .ensures) (pairs .load-pairs .ensures) (c .refusal .ensures)
 
 returns-2 : tie.Need-returns-2
 returns-2 c = sym (number-unsound _ _ (sym (c .before .is-sound .ensures) ∙ c .if1 .left))
@@ -44,7 +41,6 @@ refusal-on-spec =
     tie.close
     (tie.spec
     is-sound-requires
-    load-terms-requires
     load-agreed-requires
     load-pairs-requires
     refusal-requires

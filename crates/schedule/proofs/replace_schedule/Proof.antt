@@ -6,26 +6,16 @@ use Rattle.schedule.specs.Entered.{kw-rows, rank-rows, bytes-after}
 use Rattle.schedule.proofs.replace_schedule.Statement.{statement}
 use Rattle.schedule.proofs.replace_schedule.Tie as tie
 
-number-at-requires : tie.Need-number-at-requires
-number-at-requires c κs = search needs
-
-number-at-requires-2 : tie.Need-number-at-requires-2
-number-at-requires-2 c κs = search needs
-
 put-list-requires : tie.Need-put-list-requires
 put-list-requires c κs =
-    let m = c .before in
-    let n = m .before .before in
-    let start = n .before .before .before .before .before in
-    (record { size = start .pre .0; placed = omega arith }, kw-rows _ _ _ (start .pre .1) (n .number-at .ensures) (m .number-at2 .ensures))
+    let start = c .before .before .before .before in
+    (record { size = start .pre .whole; placed = omega arith }, kw-rows _ _ _ (start .pre))
 
 put-list-requires-2 : tie.Need-put-list-requires-2
 put-list-requires-2 c κs =
     let kw = c .before .before .before in
-    let m = kw .before .before in
-    let n = m .before .before in
-    let start = n .before .before .before .before .before in
-    (record { size = kw .put-list .kept .0 ∙ start .pre .0; placed = omega arith }, rank-rows _ _ _ (start .pre .1) (n .number-at .ensures) (m .number-at2 .ensures))
+    let start = kw .before .before .before .before .before in
+    (record { size = kw .put-list .kept .0 ∙ start .pre .whole; placed = omega arith }, rank-rows _ _ _ (start .pre))
 
 same-length : tie.Need-same-length
 same-length c = search needs
@@ -34,19 +24,10 @@ returns : tie.Need-returns
 returns c =
     let rank = c .before .before in
     let kw = rank .before .before .before .before in
-    let m = kw .before .before in
-    let n = m .before .before in
-    let start = n .before .before .before .before .before in
-    bytes-after _ _ _ (start .pre .1) (n .number-at .ensures) (m .number-at2 .ensures) (kw .put-list .ensures) (rank .put-list2 .ensures) (rank .put-list2 .kept .0 ∙ kw .put-list .kept .0 ∙ start .pre .0)
+    let start = kw .before .before .before .before .before in
+    bytes-after _ _ _ (start .pre) (kw .put-list .ensures) (rank .put-list2 .ensures) (rank .put-list2 .kept .0 ∙ kw .put-list .kept .0 ∙ start .pre .whole)
     (λ i. omega (arith, c .slice-known3 .given i))
 
 pub replace-schedule-spec : {M : Type 1} → statement M
 replace-schedule-spec =
-    tie.close
-    (tie.spec
-    number-at-requires
-    number-at-requires-2
-    put-list-requires
-    put-list-requires-2
-    same-length
-    returns)
+    tie.close (tie.spec put-list-requires put-list-requires-2 same-length returns)

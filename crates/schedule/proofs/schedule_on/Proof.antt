@@ -1,15 +1,27 @@
 -- `schedule::schedule_on` meets its contract: an accepted schedule replaces the former one, a refused one changes nothing. Assumes nothing.
 use mathlib.Core.Path.{sym, _∙_}
 use borrow.Author.Needs.{needs}
-use Rattle.schedule.specs.Entered.{schedule-accepted, schedule-refused}
+use Rattle.schedule.specs.Entered.{accepted-here, schedule-accepted, schedule-refused}
 use Rattle.schedule.proofs.schedule_on.Statement.{statement}
 use Rattle.schedule.proofs.schedule_on.Tie as tie
+
+load-terms-requires : tie.Need-load-terms-requires
+load-terms-requires c κs = search needs
+
+load-counts-requires : tie.Need-load-counts-requires
+load-counts-requires c κs = search needs
 
 refusal-on-requires : tie.Need-refusal-on-requires
 refusal-on-requires c κs = search needs
 
 replace-schedule-requires : tie.Need-replace-schedule-requires
-replace-schedule-requires c κs = search needs
+replace-schedule-requires c κs =
+    let refusal = c .before .before in
+    let counts = refusal .before .before in
+    let terms = counts .before .before in
+    accepted-here _ _ _
+    (record { whole = search needs; terms-are = terms .load-terms .ensures; counts-are = counts .load-counts .ensures })
+    (sym (refusal .refusal-on .ensures) ∙ c .before .if1 .taken)
 
 same-length : tie.Need-same-length
 same-length c = search needs
@@ -30,6 +42,8 @@ pub schedule-on-spec : {M : Type 1} → statement M
 schedule-on-spec =
     tie.close
     (tie.spec
+    load-terms-requires
+    load-counts-requires
     refusal-on-requires
     replace-schedule-requires
     same-length

@@ -1,5 +1,5 @@
 -- `soundness::is_sound_record` meets its contract: the bytes hold the record.
-use mathlib.Core.Path.{_∙_, ap}
+use mathlib.Core.Path.{_∙_, sym, ap}
 use borrow.Author.Needs.{needs}
 use Rattle.record.specs.Sound.{sound}
 use Rattle.record.specs.Stored.{figures}
@@ -17,7 +17,13 @@ slice-aggregate-is-sound : tie.Need-slice-aggregate-is-sound
 slice-aggregate-is-sound c = search needs
 
 is-sound-requires : tie.Need-is-sound-requires
-is-sound-requires c κs = search needs
+is-sound-requires c κs =
+    let stored = c .before .before .store .ensures .1 in
+    record {
+      whole = search needs;
+      terms-are = ap (λ (r : Record). r .terms) (sym stored);
+      counts-are = ap (λ (r : Record). r .counts) (sym stored);
+    }
 
 returns : tie.Need-returns
 returns c = c .is-sound .ensures ∙ ap (λ (r : Record). sound (figures r)) (c .before .before .before .store .ensures .1)
