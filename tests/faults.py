@@ -82,8 +82,8 @@ FAULTS = {
          "first(counts.blocks < record::MOST_UNIT_BLOCKS, "
          "lists::first(record::MOST_MONTH_BLOCKS <= counts.month, 11, 0), unit_full)"),
     "block: month blocks not raised":
-        ("block_totals/src/lib.rt", "add_at(s, layout_rules::MONTH, 1);",
-         "add_at(s, layout_rules::MONTH, 0);"),
+        ("block_totals/src/lib.rt", "put_at(s, layout_rules::MONTH, counts.month + 1);",
+         "put_at(s, layout_rules::MONTH, counts.month);"),
     "block: metered by remainder":
         ("block_totals/src/lib.rt", "raise_readings(s, layout_rules::METERED, exit);",
          "raise_numbers(s, layout_rules::METERED, out, 4 * size + n, m);"),
