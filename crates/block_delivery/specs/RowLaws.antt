@@ -19,12 +19,14 @@ use Rattle.energy.specs.Limits.{mostCapacity, mostReading}
 use Rattle.sharing.specs.Share.{part, shared}
 use Rattle.sharing.specs.ShareLaws.{part-le-whole, part-wide, shared-within}
 use Rattle.delivery_rules.specs.Plan.{Plan, deemed, scheduled}
-use Rattle.delivery_rules.specs.Delivery.{countedOf, counted, partOf, lossOf, delivered, atExit}
+use Rattle.delivery_rules.specs.Delivery.{countedOf, counted, unaccounted, partOf, lossOf, delivered, atExit}
 use Rattle.delivery_rules.specs.DeliveryLaws.{counted-le, delivered-le}
 use Rattle.delivery_rules.specs.Deliverable.{Deliverable}
 use Rattle.block_pair.specs.OnePair.{gapOf, PairReady, PairDone}
 use Rattle.block_pair.specs.declared.Pair.{Pair}
-use Rattle.block_delivery.specs.Rows.{RowOf}
+use Rattle.layout_rules.specs.OnBytes.{planIn}
+use Rattle.block_delivery.specs.Lent.{entriesIn, Ready}
+use Rattle.block_delivery.specs.Rows.{CountReady, RowOf}
 
 sum-beyond : (a : ℕ → ℕ) (m j : ℕ) → ((c : ℕ) → m ≤ c → a c ≡ 0) → sum (m + j) a ≡ sum m a
 unfolding sum
@@ -73,6 +75,16 @@ pair-done {p} {g} {e} {c} {kind} {rate} {row} {parts} o b q r =
 
 -- ---- one generator
 
+-- rule 1: what counts, and what does not
+module _ (p : Plan) (g e : ℕ) where
+  pub counted-here : {kind A K : ℕ} → kind ≡ p .kind g → A ≡ scheduled p g → K ≡ countedOf kind A e → K ≡ counted p g e
+  unfolding counted
+  counted-here k a h = h ∙ rw (k, a)
+
+  pub unaccounted-here : {K x : ℕ} → K ≡ counted p g e → x ≡ e → x - K ≡ unaccounted p g e
+  unfolding unaccounted
+  unaccounted-here k h = rw (k, h)
+
 module _ (p : Plan) (E : ℕ → ℕ) (d : Deliverable p E) (g : ℕ) where
   pub kw-high : (c : ℕ) → p .kw g c ≤ mostCapacity
   unfolding scheduled
@@ -95,17 +107,13 @@ module _ (p : Plan) (E : ℕ → ℕ) (d : Deliverable p E) (g : ℕ) where
   row-sum = rw row-figures wide
 
   module _ {row : List ℕ} (r : row ≡ table 16 (p .kw g)) where
-    pub scheduled-here : sum 16 (place 16 row) ≡ scheduled p g
+    scheduled-here : sum 16 (place 16 row) ≡ scheduled p g
     scheduled-here = rw r row-sum
 
-    pub scheduled-low : sum 16 (place 16 row) ≤ mostCapacity
+    scheduled-low : sum 16 (place 16 row) ≤ mostCapacity
     scheduled-low = omega (arith, scheduled-here, d .scheduled-high g)
 
-  -- rules 1 and 2
-
-  pub counted-here : {kind A e K : ℕ} → kind ≡ p .kind g → A ≡ scheduled p g → e ≡ E g → K ≡ countedOf kind A e → K ≡ counted p g (E g)
-  unfolding counted
-  counted-here k a e h = h ∙ rw (k, a, e)
+  -- rule 2
 
   counted-high : counted p g (E g) ≤ mostReading
   counted-high = omega (arith, counted-le p g (E g), d .entry-high g)
@@ -136,3 +144,15 @@ module _ (p : Plan) (E : ℕ → ℕ) (d : Deliverable p E) (g : ℕ) where
       let b : c < 16 = omega (arith, d .C-high) in
       rw (r .kind-is, r .row-is, r .parts-are, getD-table 16 (p .kw g) c 0 b, getD-table 16 (partOf p g (E g)) c 0 b)
       (record { kw-high = kw-high c; part-high = part-high c l; rate-high = d .loss-high g c; exact = exact c })
+
+-- ---- what is lent serves rule 1
+
+pub count-ready : {s entry row : List ℕ} {n m g : ℕ} → Ready s n m entry → g < n → row ≡ table 16 (planIn s .kw g) → CountReady s g row
+count-ready {s} {entry} {g = g} r l e =
+    let d = r .deliverable in
+    record {
+      whole = r .whole;
+      g-high = omega (arith, r .n-is, d .G-high);
+      scheduled-is = scheduled-here (planIn s) (entriesIn s entry) d g e;
+      scheduled-high = scheduled-low (planIn s) (entriesIn s entry) d g e;
+    }

@@ -3,12 +3,21 @@ use Prim.Native.Nat.{ℕ, _+_, _*_, _≤_, _<_}
 use mathlib.Core.List.{List}
 use mathlib.Core.Path.{_≡_}
 use lib.ListN.{length, getD}
+use Rattle.lists.specs.Sums.{sum}
 use Rattle.lists.specs.Tables.{table}
-use Rattle.energy.specs.Limits.{mostGenerators, mostConsumers}
-use Rattle.delivery_rules.specs.Plan.{Plan}
+use Rattle.lists.specs.Pairs.{place}
+use Rattle.energy.specs.Limits.{mostGenerators, mostConsumers, mostCapacity}
+use Rattle.delivery_rules.specs.Plan.{Plan, scheduled}
 use Rattle.delivery_rules.specs.Delivery.{partOf}
 use Rattle.block_pair.specs.OnePair.{PairReady}
 use Rattle.layout_rules.specs.OnBytes.{planIn}
+
+-- what rule 1 asks of it: its kW, added up
+pub record CountReady (s : List ℕ) (g : ℕ) (row : List ℕ) : Type 0 where
+  pub whole : length s ≡ 5752
+  pub g-high : g < mostGenerators
+  pub scheduled-is : sum 16 (place 16 row) ≡ scheduled (planIn s) g
+  pub scheduled-high : sum 16 (place 16 row) ≤ mostCapacity
 
 -- its kind, its kW, and its energy as rules 1 and 2 share it for the reading e
 pub record RowOf (p : Plan) (g e kind : ℕ) (row parts : List ℕ) : Type 0 where

@@ -6,10 +6,11 @@ ghost use Prim.Native.Nat.{ℕ, _+_, _*_, _<_, _≤_};
 ghost use lib.ListN.{length, getD};
 ghost use Rattle.lists.specs.Tables.{table};
 ghost use Rattle.energy.specs.Limits.{mostCapacity};
+ghost use Rattle.delivery_rules.specs.Delivery.{counted};
 ghost use Rattle.delivery_rules.specs.DeliveredIn.{DeliveredIn};
 ghost use Rattle.layout_rules.specs.OnBytes.{planIn};
 ghost use Rattle.block_delivery.specs.Lent.{entriesIn, Ready};
-ghost use Rattle.block_delivery.specs.Rows.{RowReady, RowOf};
+ghost use Rattle.block_delivery.specs.Rows.{CountReady, RowReady, RowOf};
 ghost use Rattle.block_delivery.specs.Filling.{Filled};
 
 // The kW of generator g.
@@ -39,6 +40,16 @@ fn kw_rows(s: &[u8], n: usize) -> [[u32; 16]; 8]
         g += 1;
     }
     rows
+}
+
+// Rule 1 for generator g, whose kW are `row`: what counts of its reading.
+fn counted_at(s: &[u8], g: usize, row: [u32; 16], reading: u32) -> u32
+    requires { ⌜ CountReady (now s) g row ⌝ }
+    ensures { λ r. ⌜ r ≡ counted (planIn (now (s .entry))) g reading ⌝ }
+{
+    let kind = in_place::number_at(s, layout_rules::AGREED + g * 3);
+    let scheduled = block_counting::scheduled_kw(row);
+    block_counting::counted(kind, scheduled, reading)
 }
 
 // Rules 3 and 4 for generator g, whose energy is shared as `parts`: its row of the three lists. Readings are not seen here: by whichever
@@ -83,11 +94,10 @@ fn deliver_one(
     requires { ⌜ Ready (now s) n m (now entry) × ((g < n) × ((row ≡ table 16 (planIn (now s) .kw g)) × Filled (planIn (now s)) (entriesIn (now s) (now entry)) n m (g * m) g (now out))) ⌝ }
     ensures { λ _. ⌜ Filled (planIn (now (s .entry))) (entriesIn (now (s .entry)) (now (entry .entry))) n m ((g + 1) * m) (g + 1) (now (out .exit)) ⌝ }
 {
-    let kind = in_place::number_at(s, layout_rules::AGREED + g * 3);
-    let scheduled = block_counting::scheduled_kw(row);
     let reading = entry[g];
-    let counts = block_counting::counted(kind, scheduled, reading);
+    let counts = counted_at(s, g, row, reading);
     let parts = sharing::share(counts, row);
+    let kind = in_place::number_at(s, layout_rules::AGREED + g * 3);
     deliver_row(s, n, m, g, kind, &row, &parts, out);
     columns::put_number_at(out, 4 * (n * m), n, g, lists::wide(reading - counts));
 }

@@ -7,13 +7,13 @@ use borrow.Author.Needs.{needs}
 use lib.ListN.{getD}
 use Rattle.lists.specs.PairsLaws.{place-in}
 use Rattle.delivery_rules.specs.Plan.{Plan}
-use Rattle.delivery_rules.specs.Delivery.{counted, unaccounted}
+use Rattle.delivery_rules.specs.Delivery.{counted}
 use Rattle.delivery_rules.specs.DeliveryLaws.{counted-le}
 use Rattle.layout_rules.specs.OnBytes.{planIn}
 use Rattle.block_delivery.specs.Lent.{entriesIn}
 use Rattle.block_delivery.specs.LentLaws.{kind-at}
 use Rattle.block_delivery.specs.Rows.{RowOf}
-use Rattle.block_delivery.specs.RowLaws.{scheduled-here, scheduled-low, counted-here, parts-here, pair-ready}
+use Rattle.block_delivery.specs.RowLaws.{count-ready, unaccounted-here, parts-here, pair-ready}
 use Rattle.block_delivery.specs.Filling.{generator-more}
 use Rattle.block_delivery.proofs.deliver_one.Statement.{statement}
 use Rattle.block_delivery.proofs.deliver_one.Tie as tie
@@ -25,42 +25,45 @@ abbrev entries : tie.Start → ℕ → ℕ
 entries s = entriesIn (s .args .s .now) (s .args .entry .now)
 
 -- where the function started, seen from the calls
+abbrev start-of-counted : tie.After-counted-at → tie.Start
+start-of-counted c = c .before .before .before .before .before
+
 abbrev start-of-kind : tie.After-number-at → tie.Start
-start-of-kind c = c .before .before .before .before
-
-abbrev start-of-counted : tie.After-counted → tie.Start
-start-of-counted c = start-of-kind (c .before .before .before)
-
-kind-is : (c : tie.After-number-at) → c .number-at .result ≡ plan (start-of-kind c) .kind (start-of-kind c .args .g)
-kind-is c =
-    let s = start-of-kind c in
-    c .number-at .ensures ∙ sym (kind-at (s .args .s .now) (s .args .g) (search needs))
+start-of-kind c = start-of-counted (c .before .before)
 
 reading-is : (s : tie.Start) → getD (s .args .entry .now) (s .args .g) 0 ≡ entries s (s .args .g)
 reading-is s = sym (place-in (plan s .G) (s .args .entry .now) (s .args .g) (search needs))
 
-counted-is : (c : tie.After-counted) → c .counted .result ≡ counted (plan (start-of-counted c)) (start-of-counted c .args .g) (entries (start-of-counted c) (start-of-counted c .args .g))
-counted-is c =
-    let s = start-of-counted c in
-    let d = s .pre .0 .deliverable in
-    let k = c .before .before in
-    counted-here (plan s) (entries s) d (s .args .g) (kind-is (k .before)) (k .scheduled-kw .ensures ∙ scheduled-here (plan s) (entries s) d (s .args .g) (s .pre .1 .1 .0)) (reading-is s) (c .counted .ensures)
+counted-is : (c : tie.After-counted-at) → c .counted-at .result ≡ counted (plan (start-of-counted c)) (start-of-counted c .args .g) (entries (start-of-counted c) (start-of-counted c .args .g))
+counted-is c = c .counted-at .ensures ∙ rw (reading-is (start-of-counted c))
 
 row-is :
-    (c : tie.After-share) →
-    RowOf (plan (start-of-counted (c .before))) (start-of-counted (c .before) .args .g) (entries (start-of-counted (c .before)) (start-of-counted (c .before) .args .g))
-    (c .before .before .before .before .number-at .result) (start-of-counted (c .before) .args .t5) (c .share .result)
+    (c : tie.After-number-at) →
+    RowOf (plan (start-of-kind c)) (start-of-kind c .args .g) (entries (start-of-kind c) (start-of-kind c .args .g))
+    (c .number-at .result) (start-of-kind c .args .t5) (c .before .share .result)
 row-is c =
-    let s = start-of-counted (c .before) in
+    let s = start-of-kind c in
     let row = s .pre .1 .1 .0 in
     record {
-      kind-is = kind-is (c .before .before .before .before);
+      kind-is = c .number-at .ensures ∙ sym (kind-at (s .args .s .now) (s .args .g) (search needs));
       row-is = row;
-      parts-are = parts-here (plan s) (entries s) (s .pre .0 .deliverable) (s .args .g) row (counted-is (c .before)) (c .share .ensures);
+      parts-are = parts-here (plan s) (entries s) (s .pre .0 .deliverable) (s .args .g) row (counted-is (c .before .before)) (c .before .share .ensures);
     }
 
 few : (s : tie.Start) → (s .args .g + 1) * s .args .m ≤ s .args .n * s .args .m
 few s = mul-le-mul-right (s .args .m) (omega arith)
+
+mul-reading : tie.Need-mul-reading
+mul-reading c = search needs
+
+shared-slice-read-reading : tie.Need-shared-slice-read-reading
+shared-slice-read-reading c = search needs
+
+counted-at-requires : tie.Need-counted-at-requires
+counted-at-requires c κs = let s = c .before .before .before .before in count-ready (s .pre .0) (s .pre .1 .0) (s .pre .1 .1 .0)
+
+share-requires : tie.Need-share-requires
+share-requires c κs = search needs
 
 mul-number-at : tie.Need-mul-number-at
 mul-number-at c = search needs
@@ -71,27 +74,10 @@ add-number-at c = search needs
 number-at-requires : tie.Need-number-at-requires
 number-at-requires c κs = search needs
 
-scheduled-kw-requires : tie.Need-scheduled-kw-requires
-scheduled-kw-requires c κs =
-    let s = start-of-kind c in
-    scheduled-low (plan s) (entries s) (s .pre .0 .deliverable) (s .args .g) (s .pre .1 .1 .0)
-
-mul-reading : tie.Need-mul-reading
-mul-reading c = search needs
-
-shared-slice-read-reading : tie.Need-shared-slice-read-reading
-shared-slice-read-reading c = search needs
-
-counted-requires : tie.Need-counted-requires
-counted-requires c κs = search needs
-
-share-requires : tie.Need-share-requires
-share-requires c κs = search needs
-
 deliver-row-requires : tie.Need-deliver-row-requires
 deliver-row-requires c κs =
     let k = c .before .before .before in
-    let s = start-of-counted (k .before) in
+    let s = start-of-kind k in
     record {
       whole = s .pre .0 .whole;
       one-of-n = s .pre .1 .0;
@@ -109,9 +95,10 @@ mul-put-number-at-2 c = search needs
 
 sub-wide : tie.Need-sub-wide
 sub-wide c =
-    let k = c .before .before .before .before .before .before .before .before in
-    let s = start-of-counted k in
-    omega (arith, counted-is k, reading-is s, counted-le (plan s) (s .args .g) (entries s (s .args .g)))
+    let row = c .before .before .before in
+    let k = row .before .before .before .before in
+    let s = start-of-kind k in
+    omega (arith, counted-is (k .before .before), reading-is s, counted-le (plan s) (s .args .g) (entries s (s .args .g)))
 
 wide-requires : tie.Need-wide-requires
 wide-requires c κs = search needs
@@ -123,28 +110,26 @@ same-length : tie.Need-same-length
 same-length c = search needs
 
 returns : tie.Need-returns
-unfolding unaccounted
 returns c =
     let put = c .before .before in
     let widened = put .before in
-    let f = widened .before .before .before .before in
-    let k = f .before .before .before .before in
-    let s = start-of-counted (k .before) in
-    let h = f .deliver-row .ensures (entries s) (row-is k) (s .pre .1 .1 .1) in
-    generator-more h (few s) (s .pre .1 .0) (widened .wide .ensures ∙ rw (counted-is (k .before), reading-is s)) (put .put-number-at .ensures)
+    let row = widened .before .before .before .before in
+    let k = row .before .before .before .before in
+    let s = start-of-kind k in
+    let h = row .deliver-row .ensures (entries s) (row-is k) (s .pre .1 .1 .1) in
+    generator-more h (few s) (s .pre .1 .0) (widened .wide .ensures ∙ unaccounted-here _ _ _ (counted-is (k .before .before)) (reading-is s)) (put .put-number-at .ensures)
 
 pub deliver-one-spec : {M : Type 1} → statement M
 deliver-one-spec =
     tie.close
     (tie.spec
+    mul-reading
+    shared-slice-read-reading
+    counted-at-requires
+    share-requires
     mul-number-at
     add-number-at
     number-at-requires
-    scheduled-kw-requires
-    mul-reading
-    shared-slice-read-reading
-    counted-requires
-    share-requires
     deliver-row-requires
     mul-put-number-at
     mul-put-number-at-2
