@@ -1,5 +1,5 @@
 -- The refusals of opening and schedule in the parts that the code tests. Assumes nothing.
-use Prim.Native.Nat.{ℕ, _+_, _*_, _≤_, min}
+use Prim.Native.Nat.{ℕ, _+_, _*_, _≤_}
 use mathlib.Core.Path.{_≡_}
 use mathlib.Core.Bool.{Bool, _&&_, not}
 use mathlib.Core.List.{List, [], _∷_}
@@ -10,6 +10,7 @@ use Rattle.lists.specs.Tests.{some, within}
 use Rattle.lists.specs.Pairs.{place, cell}
 use Rattle.lists.specs.Refusals.{firstOf}
 use Rattle.energy.specs.Limits.{mostGenerators, mostConsumers, mostRank}
+use Rattle.delivery_rules.specs.Plan.{lowerCapacity}
 use Rattle.record.specs.declared.Agreed.{Agreed}
 
 -- ---- opening
@@ -33,8 +34,12 @@ pub record Fitting (G C : ℕ) (generators pairs : List ℕ) : Type 0 where
 unfoldable pub offLink : List ℕ → ℕ → ℕ → List ℕ → Bool
 offLink link n m kws = some n (λ g. some m (λ c. eqb (cell 8 16 link g c) 0 && ltb 0 (cell n m kws g c)))
 
+-- generator g has more kW than the lower of its capacities
+abbrev pub overAt : Agreed → ℕ → ℕ → List ℕ → ℕ → Bool
+overAt a n m kws g = ltb (lowerCapacity (place 8 (a .installed) g) (place 8 (a .contracted) g)) (sum m (cell n m kws g))
+
 unfoldable pub overCapacity : Agreed → ℕ → ℕ → List ℕ → Bool
-overCapacity a n m kws = some n (λ g. ltb (min (place 8 (a .installed) g) (place 8 (a .contracted) g)) (sum m (cell n m kws g)))
+overCapacity a n m kws = some n (overAt a n m kws)
 
 unfoldable pub refusalOn : Agreed → List ℕ → ℕ → ℕ → List ℕ → List ℕ → ℕ
 refusalOn a link n m kws ranks =

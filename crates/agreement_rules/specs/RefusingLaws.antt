@@ -1,5 +1,5 @@
 -- What the code tests is what the rules refuse. Assumes nothing.
-use Prim.Native.Nat.{ℕ, zero, suc, _+_, _*_, _≤_, _<_, min}
+use Prim.Native.Nat.{ℕ, zero, suc, _+_, _*_, _≤_, _<_}
 use mathlib.Core.Path.{_≡_, refl, sym, ap, _∙_}
 use mathlib.Core.Bool.{Bool, true, false, _&&_, _||_, not}
 use mathlib.Core.List.{List, [], _∷_}
@@ -15,13 +15,14 @@ use Rattle.lists.specs.Pairs.{place, cell}
 use Rattle.lists.specs.PairsLaws.{place-in, cell-in}
 use Rattle.lists.specs.Refusals.{firstOf}
 use Rattle.energy.specs.Limits.{mostGenerators, mostConsumers, lastKind, mostCapacity, mostLoss, mostRank}
+use Rattle.delivery_rules.specs.Plan.{lowerCapacity}
 use Rattle.record.specs.Stored.{figures, planOf}
 use Rattle.record.specs.declared.Agreed.{Agreed}
 use Rattle.record.specs.declared.Record.{Record}
 use Rattle.agreement_rules.specs.Opening.{asked, sizesFit, termsFit, kindOf, installedOf, contractedOf, linkOf, rateOfLoss, openingRefusal}
 use Rattle.agreement_rules.specs.Schedule.{newKw, newRank, scheduleRefusal}
 use Rattle.agreement_rules.specs.ReadingLaws.{cell-take}
-use Rattle.agreement_rules.specs.Refusing.{outside, columnOver, Fitting, offLink, overCapacity, refusalOn}
+use Rattle.agreement_rules.specs.Refusing.{outside, columnOver, Fitting, offLink, overAt, overCapacity, refusalOn}
 
 -- ---- tests
 
@@ -44,13 +45,13 @@ outside-over high x = rw (le-leb 0 x (omega arith)) (go (leb x high) refl)
     go true e = sym (le-ltb high x (leb-true x high e))
     go false e = sym (lt-ltb high x (leb-false x high e))
 
-over-lower : (i n t : ℕ) → ltb i t || ltb n t ≡ ltb (min i n) t
+over-lower : (i n t : ℕ) → ltb i t || ltb n t ≡ ltb (lowerCapacity i n) t
 over-lower i n t = go (ltb i t) refl (ltb n t) refl
   where
-    go : (a : Bool) → ltb i t ≡ a → (b : Bool) → ltb n t ≡ b → a || b ≡ ltb (min i n) t
-    go true e b q = sym (lt-ltb (min i n) t (omega (arith, ltb-true i t e)))
-    go false e true q = sym (lt-ltb (min i n) t (omega (arith, ltb-true n t q)))
-    go false e false q = sym (le-ltb (min i n) t (omega (arith, ltb-false i t e, ltb-false n t q)))
+    go : (a : Bool) → ltb i t ≡ a → (b : Bool) → ltb n t ≡ b → a || b ≡ ltb (lowerCapacity i n) t
+    go true e b q = sym (lt-ltb (lowerCapacity i n) t (omega (arith, ltb-true i t e)))
+    go false e true q = sym (lt-ltb (lowerCapacity i n) t (omega (arith, ltb-true n t q)))
+    go false e false q = sym (le-ltb (lowerCapacity i n) t (omega (arith, ltb-false i t e, ltb-false n t q)))
 
 -- ---- the rows of a schedule
 
@@ -60,7 +61,7 @@ row-off link kws n m g h k l =
     some-same m _ _ (λ c b. rw (cell-in 8 16 link g c (omega arith) (omega arith), cell-in n m kws g c l b) refl)
 
 pub row-over : (a : Agreed) (kws : List ℕ) (n m g t : ℕ) → n ≤ 8 → g < n → t ≡ sum m (λ c. getD kws (g * m + c) 0) →
-    ltb (getD (a .installed) g 0) t || ltb (getD (a .contracted) g 0) t ≡ ltb (min (place 8 (a .installed) g) (place 8 (a .contracted) g)) (sum m (cell n m kws g))
+    ltb (getD (a .installed) g 0) t || ltb (getD (a .contracted) g 0) t ≡ overAt a n m kws g
 row-over a kws n m g t h l e =
     over-lower _ _ t ∙
     rw (place-in 8 (a .installed) g (omega arith), place-in 8 (a .contracted) g (omega arith), e, sum-cong m (cell n m kws g) (λ c. getD kws (g * m + c) 0) (λ c b. cell-in n m kws g c l b))

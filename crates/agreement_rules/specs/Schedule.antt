@@ -1,5 +1,5 @@
 -- Document 01, "Schedule": refusals 7 to 9. Assumes nothing.
-use Prim.Native.Nat.{ℕ, _*_, min}
+use Prim.Native.Nat.{ℕ, _*_}
 use mathlib.Core.Bool.{_&&_, not}
 use mathlib.Core.List.{List, [], _∷_}
 use lib.Dec.{eqb, ltb}
@@ -9,6 +9,7 @@ use Rattle.lists.specs.Tests.{some, within}
 use Rattle.lists.specs.Pairs.{cell}
 use Rattle.lists.specs.Refusals.{firstOf}
 use Rattle.energy.specs.Limits.{mostRank}
+use Rattle.delivery_rules.specs.Plan.{lowerCapacity}
 use Rattle.record.specs.Book.{Book}
 use Rattle.record.specs.Called.{Rule, Called}
 use Rattle.record.specs.declared.Record.{Record}
@@ -30,7 +31,7 @@ module _ (kws ranks : List ℕ) (b : Book) where
       firstOf
       ((2, not (eqb (length kws) (G * C) && eqb (length ranks) (G * C))) ∷
       (7, some G (λ g. some C (λ c. eqb (p .link g c) 0 && ltb 0 (newKw g c)))) ∷
-      (8, some G (λ g. ltb (min (p .installed g) (p .contracted g)) (sum C (newKw g)))) ∷
+      (8, some G (λ g. ltb (lowerCapacity (p .installed g) (p .contracted g)) (sum C (newKw g)))) ∷
       (9, some G (λ g. some C (λ c. not (within 1 mostRank (newRank g c))))) ∷
       [])
 

@@ -1,5 +1,5 @@
 -- An accepted schedule keeps soundness. Assumes nothing.
-use Prim.Native.Nat.{ℕ, _*_, _≤_, _<_, min}
+use Prim.Native.Nat.{ℕ, _*_, _≤_, _<_}
 use mathlib.Core.Path.{_≡_, refl, sym, _∙_}
 use mathlib.Core.Bool.{Bool, true, false, _&&_, not, false≢true, true≢false}
 use mathlib.Core.List.{List}
@@ -13,7 +13,7 @@ use Rattle.lists.specs.Tests.{some, within, some-none, and-left, and-right, wit
 use Rattle.lists.specs.PairsLaws.{cell-out}
 use Rattle.lists.specs.Refusals.{first-head, first-tail, first-or}
 use Rattle.energy.specs.Limits.{mostRank}
-use Rattle.delivery_rules.specs.Plan.{scheduled}
+use Rattle.delivery_rules.specs.Plan.{lowerCapacity, scheduled}
 use Rattle.record.specs.Book.{Book}
 use Rattle.record.specs.CalledLaws.{Keeps}
 use Rattle.record.specs.SoundLaws.{Facts, AgreedFacts, PairFacts, pair-beyond}
@@ -24,7 +24,7 @@ pub record Schedulable (kws ranks : List ℕ) (b : Book) : Type 0 where
   pub kws-size : length kws ≡ b .plan .G * b .plan .C
   pub ranks-size : length ranks ≡ b .plan .G * b .plan .C
   pub unlinked : (g c : ℕ) → g < b .plan .G → c < b .plan .C → b .plan .link g c ≡ 0 → newKw kws ranks b g c ≡ 0
-  pub total : (g : ℕ) → g < b .plan .G → sum (b .plan .C) (newKw kws ranks b g) ≤ min (b .plan .installed g) (b .plan .contracted g)
+  pub total : (g : ℕ) → g < b .plan .G → sum (b .plan .C) (newKw kws ranks b g) ≤ lowerCapacity (b .plan .installed g) (b .plan .contracted g)
   pub rank-low : (g c : ℕ) → g < b .plan .G → c < b .plan .C → 1 ≤ newRank kws ranks b g c
   pub rank-high : (g c : ℕ) → g < b .plan .G → c < b .plan .C → newRank kws ranks b g c ≤ mostRank
 
@@ -42,7 +42,7 @@ module _ (kws ranks : List ℕ) (b : Book) where
   offLink g c = eqb (b .plan .link g c) 0 && ltb 0 (newKw kws ranks b g c)
 
   abbrev overCapacity : ℕ → Bool
-  overCapacity g = ltb (min (b .plan .installed g) (b .plan .contracted g)) (sum (b .plan .C) (newKw kws ranks b g))
+  overCapacity g = ltb (lowerCapacity (b .plan .installed g) (b .plan .contracted g)) (sum (b .plan .C) (newKw kws ranks b g))
 
   abbrev badRank : ℕ → ℕ → Bool
   badRank g c = not (within 1 mostRank (newRank kws ranks b g c))
@@ -92,7 +92,7 @@ module _ (kws ranks : List ℕ) (b : Book) where
         let old = f .agreed g in
         record { kind = old .kind; installed = old .installed; contracted = old .contracted; total = total (ltb g (b .plan .G)) refl; beyond = old .beyond }
       where
-        total : (t : Bool) → ltb g (b .plan .G) ≡ t → sum (b .plan .C) (newKw kws ranks b g) ≤ min (b .plan .installed g) (b .plan .contracted g)
+        total : (t : Bool) → ltb g (b .plan .G) ≡ t → sum (b .plan .C) (newKw kws ranks b g) ≤ lowerCapacity (b .plan .installed g) (b .plan .contracted g)
         total true e = s .total g (ltb-true g (b .plan .G) e)
         total false e = omega (arith, none e)
           where

@@ -14,12 +14,12 @@ use Rattle.lists.specs.Sums.{sum, sum-part}
 use Rattle.lists.specs.Tables.{table, table-same, getD-table}
 use Rattle.lists.specs.Pairs.{place}
 use Rattle.lists.specs.PairsLaws.{place-table}
-use Rattle.energy.specs.Energy.{quarterHour, lossOn}
+use Rattle.energy.specs.Energy.{quarterHour, afterLoss}
 use Rattle.energy.specs.Limits.{mostCapacity, mostReading}
 use Rattle.sharing.specs.Share.{part, shared}
 use Rattle.sharing.specs.ShareLaws.{part-le-whole, part-wide, shared-within}
 use Rattle.delivery_rules.specs.Plan.{Plan, deemed, scheduled}
-use Rattle.delivery_rules.specs.Delivery.{countedOf, counted, unaccounted, partOf, lossOf, delivered, atExit}
+use Rattle.delivery_rules.specs.Delivery.{countedOf, counted, unaccounted, partOf, lossOf, delivered, scheduledAtExit, atExit}
 use Rattle.delivery_rules.specs.DeliveryLaws.{counted-le, delivered-le}
 use Rattle.delivery_rules.specs.Deliverable.{Deliverable}
 use Rattle.block_pair.specs.OnePair.{gapOf, PairReady, PairDone}
@@ -40,13 +40,13 @@ unfolding gapOf atExit deemed
 gap-is p g e c = go (not (eqb (p .kind g) 0))
   where
     q : ℕ
-    q = quarterHour (p .kw g c) - lossOn (quarterHour (p .kw g c)) (p .loss g c)
+    q = scheduledAtExit p g c
 
     go : (t : Bool) → (if t then 0 else q - delivered p g e c) ≡ (if t then delivered p g e c else q) - delivered p g e c
     go true = omega arith
     go false = refl
 
-exit-of-scheduled : (p : Plan) (g e c : ℕ) → p .kind g ≡ 0 → atExit p g e c ≡ quarterHour (p .kw g c) - lossOn (quarterHour (p .kw g c)) (p .loss g c)
+exit-of-scheduled : (p : Plan) (g e c : ℕ) → p .kind g ≡ 0 → atExit p g e c ≡ scheduledAtExit p g c
 unfolding atExit deemed
 exit-of-scheduled p g e c z = rw (eq-eqb (p .kind g) 0 z)
 
@@ -131,7 +131,7 @@ module _ (p : Plan) (E : ℕ → ℕ) (d : Deliverable p E) (g : ℕ) where
 
   -- rules 3 and 4
 
-  exact : (c : ℕ) → p .kind g ≡ 0 → partOf p g (E g) c - lossOn (partOf p g (E g) c) (p .loss g c) ≤ quarterHour (p .kw g c) - lossOn (quarterHour (p .kw g c)) (p .loss g c)
+  exact : (c : ℕ) → p .kind g ≡ 0 → afterLoss (partOf p g (E g) c) (p .loss g c) ≤ scheduledAtExit p g c
   unfolding delivered lossOf
   exact c z = omega (arith, delivered-le p g (E g) c (omega (arith, d .loss-high g c)), exit-of-scheduled p g (E g) c z)
 

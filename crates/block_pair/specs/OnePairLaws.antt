@@ -2,7 +2,7 @@
 use Prim.Native.Nat.{ℕ, _-_}
 use mathlib.Core.Path.{_≡_}
 use borrow.Author.Tests.{eq-eqb, ne-eqb}
-use Rattle.energy.specs.Energy.{lossOn}
+use Rattle.energy.specs.Energy.{afterLoss}
 use Rattle.block_pair.specs.OnePair.{gapOf}
 
 module _ (kind scheduled rate delivered : ℕ) where
@@ -10,6 +10,6 @@ module _ (kind scheduled rate delivered : ℕ) where
   unfolding gapOf
   gap-deemed k = rw (ne-eqb kind 0 k)
 
-  pub gap-scheduled : kind ≡ 0 → scheduled - lossOn scheduled rate - delivered ≡ gapOf kind scheduled rate delivered
+  pub gap-scheduled : kind ≡ 0 → afterLoss scheduled rate - delivered ≡ gapOf kind scheduled rate delivered
   unfolding gapOf
   gap-scheduled k = rw (eq-eqb kind 0 k)

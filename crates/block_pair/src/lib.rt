@@ -1,8 +1,8 @@
 // Rules 3 and 4 of a block for one pair. Called by this repository's crates only: what a function requires, its callers meet.
 ghost use mathlib.Core.Path.{_≡_};
-ghost use Prim.Native.Nat.{_-_, _<_, _≤_};
+ghost use Prim.Native.Nat.{_<_, _≤_};
 ghost use lib.ListN.{getD};
-ghost use Rattle.energy.specs.Energy.{lossOn};
+ghost use Rattle.energy.specs.Energy.{afterLoss};
 ghost use Rattle.energy.specs.Requirements.{Portionable};
 ghost use Rattle.block_pair.specs.OnePair.{gapOf, PairReady, PairDone};
 use energy::Kw;
@@ -17,7 +17,7 @@ pub struct Pair {
 
 // Rule 4, less what is delivered: a deemed kind is scheduled at what it delivers.
 fn gap(kind: u64, scheduled: Wh, rate: u64, delivered: u64) -> u64
-    requires { ⌜ Portionable (scheduled .0) rate × (kind ≡ 0 → delivered ≤ scheduled .0 - lossOn (scheduled .0) rate) ⌝ }
+    requires { ⌜ Portionable (scheduled .0) rate × (kind ≡ 0 → delivered ≤ afterLoss (scheduled .0) rate) ⌝ }
     ensures { λ r. ⌜ r ≡ gapOf kind (scheduled .0) rate delivered ⌝ }
 {
     if kind == 0 {

@@ -1,5 +1,5 @@
 -- A block's sums fit 64 bits on a sound record. Assumes nothing.
-use Prim.Native.Nat.{ℕ, _-_, _*_, _≤_, _<_}
+use Prim.Native.Nat.{ℕ, _*_, _≤_, _<_}
 use mathlib.Core.Path.{_≡_}
 use mathlib.Core.Bool.{Bool, true, false}
 use mathlib.Core.Logic.{⊎-elim}
@@ -8,14 +8,14 @@ use native.Mathlib.Nat.{mul-le-mul, mul-le-mul-left, mul-one, eq-zero-or-pos, le
 use Rattle.lists.specs.Choice.{if_then_else_}
 use Rattle.lists.specs.Sums.{sum}
 use Rattle.energy.specs.Limits.{mostReading}
-use Rattle.energy.specs.Energy.{quarterHour, lossOn}
+use Rattle.energy.specs.Energy.{quarterHour}
 use Rattle.sharing.specs.Share.{part}
 use Rattle.sharing.specs.ShareLaws.{part-none, part-le}
 use Rattle.energy.specs.Limits.{mostFigure}
 use Rattle.arrays.specs.Bounds.{Moderate}
 use Rattle.arrays.specs.BoundsLaws.{moderate-table, moderate-rows, no-more, and-then, moderate-joined}
 use Rattle.delivery_rules.specs.Plan.{deemed}
-use Rattle.delivery_rules.specs.Delivery.{counted, unaccounted, partOf, lossOf, delivered, atExit}
+use Rattle.delivery_rules.specs.Delivery.{counted, unaccounted, partOf, lossOf, delivered, scheduledAtExit, atExit}
 use Rattle.delivery_rules.specs.DeliveryLaws.{counted-le, lossOf-le}
 use Rattle.settlement_rules.specs.Settlement.{setOff, underdrawn, shortfall, remainder, blockLists, blockOutput}
 use Rattle.settlement_rules.specs.SettlementLaws.{setOff-le, shortfall-le, entry-split, exit-split}
@@ -56,15 +56,9 @@ module _ (r : Record) (E R : ℕ → ℕ) (f : Facts (figures r)) (e-most : (g :
   unfolding atExit
   exit-small g c = go (deemed (planOf r) g)
     where
-      q : ℕ
-      q = quarterHour (planOf r .kw g c)
-
-      small : q ≤ 100_000_000
-      small = kw-small g c
-
-      go : (t : Bool) → (if t then delivered (planOf r) g (E g) c else q - lossOn q (planOf r .loss g c)) ≤ 80_000_000_000_000
+      go : (t : Bool) → (if t then delivered (planOf r) g (E g) c else scheduledAtExit (planOf r) g c) ≤ 80_000_000_000_000
       go true = delivered-small g c
-      go false = omega (arith, small)
+      go false = omega (arith, kw-small g c)
 
   loss-small : (g c : ℕ) → lossOf (planOf r) g (E g) c ≤ mostFigure
   loss-small g c = omega (arith, lossOf-le (planOf r) g (E g) c (rate-small g c), part-small g c)

@@ -2,13 +2,17 @@
 use Prim.Native.Nat.{ℕ, _-_, min}
 use lib.Dec.{eqb}
 use Rattle.lists.specs.Choice.{if_then_else_}
-use Rattle.energy.specs.Energy.{quarterHour, lossOn}
+use Rattle.energy.specs.Energy.{quarterHour, lossOn, afterLoss}
 use Rattle.sharing.specs.Share.{part}
 use Rattle.delivery_rules.specs.Plan.{Plan, deemedKind, deemed, scheduled}
 
 -- Rule 1: what counts of the reading e of a generator of this kind with A kW scheduled.
 unfoldable pub countedOf : (kind A e : ℕ) → ℕ
 countedOf kind A e = if eqb A 0 then 0 else (if deemedKind kind then e else min e (quarterHour A))
+
+-- Rule 4: what is scheduled of generator g for consumer c, as it arrives at exit.
+abbrev pub scheduledAtExit : Plan → ℕ → ℕ → ℕ
+scheduledAtExit p g c = afterLoss (quarterHour (p .kw g c)) (p .loss g c)
 
 -- for generator g and its entry reading e
 module _ (p : Plan) (g e : ℕ) where
@@ -33,4 +37,4 @@ module _ (p : Plan) (g e : ℕ) where
 
   -- Rule 4: document 01's q, what is scheduled at exit.
   unfoldable pub atExit : ℕ → ℕ
-  atExit c = if deemed p g then delivered c else quarterHour (p .kw g c) - lossOn (quarterHour (p .kw g c)) (p .loss g c)
+  atExit c = if deemed p g then delivered c else scheduledAtExit p g c

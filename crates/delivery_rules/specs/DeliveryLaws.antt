@@ -1,5 +1,5 @@
 -- Laws of rules 1 to 4: every subtraction is exact, and the parts of a generator add up to what counts. Assumes nothing.
-use Prim.Native.Nat.{ℕ, _-_, _*_, _≤_, _<_, min}
+use Prim.Native.Nat.{ℕ, _*_, _≤_, _<_, min}
 use mathlib.Core.Path.{_≡_, refl, sym, ap, _∙_}
 use mathlib.Core.Bool.{Bool, true, false}
 use mathlib.Core.Logic.{⊎-elim}
@@ -9,13 +9,13 @@ use borrow.Author.Tests.{eq-eqb}
 use lib.Dec.{eqb}
 use Rattle.lists.specs.Choice.{if_then_else_}
 use Rattle.lists.specs.Sums.{sum, sum-zero}
-use Rattle.energy.specs.Energy.{quarterHour, lossOn}
+use Rattle.energy.specs.Energy.{quarterHour}
 use Rattle.energy.specs.EnergyLaws.{loss-le, after-loss-up}
 use Rattle.sharing.specs.Share.{part}
 use Rattle.sharing.specs.ShareLaws.{parts-sum, part-none, part-le}
 use Rattle.order_rules.specs.Members.{Below, order-below, only-below}
 use Rattle.delivery_rules.specs.Plan.{Plan, deemed, scheduled, standing, order, suppliers}
-use Rattle.delivery_rules.specs.Delivery.{countedOf, counted, partOf, lossOf, delivered, atExit}
+use Rattle.delivery_rules.specs.Delivery.{countedOf, counted, partOf, lossOf, delivered, scheduledAtExit, atExit}
 
 -- ---- the order
 
@@ -90,9 +90,6 @@ module _ (p : Plan) (g e : ℕ) where
     unfolding atExit delivered lossOf
     delivered-le = go (deemed p g) refl
       where
-        q : ℕ
-        q = quarterHour (p .kw g c)
-
-        go : (t : Bool) → deemed p g ≡ t → delivered p g e c ≤ (if t then delivered p g e c else q - lossOn q (p .loss g c))
+        go : (t : Bool) → deemed p g ≡ t → delivered p g e c ≤ (if t then delivered p g e c else scheduledAtExit p g c)
         go true d = le-refl (delivered p g e c)
-        go false d = after-loss-up (partOf p g e c) q (p .loss g c) rate (scheduled-part d)
+        go false d = after-loss-up (partOf p g e c) (quarterHour (p .kw g c)) (p .loss g c) rate (scheduled-part d)

@@ -1,6 +1,6 @@
 -- What a block is settled by: the agreement's generators and pairs, and the schedule that stands. Generators and consumers are
 -- counted from 0; every figure beyond G or C is 0. Assumes nothing.
-use Prim.Native.Nat.{ℕ}
+use Prim.Native.Nat.{ℕ, min}
 use mathlib.Core.Bool.{Bool, not}
 use mathlib.Core.List.{List}
 use lib.Dec.{eqb}
@@ -23,6 +23,10 @@ pub record Plan : Type 0 where
 -- kinds 1 to 3, wind, mini-hydel and solar, are document 01's deemed kinds: scheduled at what they inject (10.5)
 abbrev pub deemedKind : ℕ → Bool
 deemedKind kind = not (eqb kind 0)
+
+-- the lower of a generator's capacities (5.1)
+abbrev pub lowerCapacity : (installed contracted : ℕ) → ℕ
+lowerCapacity installed contracted = min installed contracted
 
 module _ (p : Plan) where
   unfoldable pub deemed : ℕ → Bool

@@ -4,7 +4,7 @@ use Prim.Native.Nat.{ℕ, _+_, _-_, _*_, _≤_}
 use mathlib.Core.Path.{_≡_, sym, ap, _∙_}
 use native.Mathlib.Omega.{arith}
 use native.Mathlib.Nat.{mul-le-mul-left, add-mul}
-use Rattle.energy.specs.Energy.{portionUp, lossOn}
+use Rattle.energy.specs.Energy.{portionUp, lossOn, afterLoss}
 
 pub portion-le : (x rate : ℕ) → rate ≤ 10_000 → portionUp x rate ≤ x
 unfolding portionUp
@@ -28,11 +28,11 @@ module _ (x y rate : ℕ) (h : rate ≤ 10_000) (l : x ≤ y) where
       let e : (y - x) + x ≡ y = omega arith in
       ap (λ (z : ℕ). z * rate) (sym e) ∙ add-mul (y - x) x rate
 
-  pub after-loss-up : x - lossOn x rate ≤ y - lossOn y rate
+  pub after-loss-up : afterLoss x rate ≤ afterLoss y rate
   unfolding lossOn portionUp
   after-loss-up = omega (arith, product, mul-le-mul-left (y - x) h)
 
-  pub after-loss-step : y - lossOn y rate ≤ x - lossOn x rate + (y - x)
+  pub after-loss-step : afterLoss y rate ≤ afterLoss x rate + (y - x)
   unfolding lossOn portionUp
   after-loss-step = omega (arith, product, mul-le-mul-left x h)
 

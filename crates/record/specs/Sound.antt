@@ -1,11 +1,11 @@
 -- Document 01, "The record": what a sound record is. Assumes nothing.
-use Prim.Native.Nat.{ℕ, _*_, min}
+use Prim.Native.Nat.{ℕ, _*_}
 use mathlib.Core.Bool.{Bool, _&&_, _||_}
 use lib.Dec.{eqb, leb, ltb}
 use Rattle.lists.specs.Choice.{if_then_else_}
 use Rattle.lists.specs.Tests.{all, within}
 use Rattle.energy.specs.Limits.{mostGenerators, mostConsumers, lastKind, mostCapacity, mostLoss, mostRate, mostCycle, mostRank, mostReading, mostMonthBlocks, mostUnitBlocks}
-use Rattle.delivery_rules.specs.Plan.{scheduled}
+use Rattle.delivery_rules.specs.Plan.{lowerCapacity, scheduled}
 use Rattle.record.specs.Book.{Book, splitOfInjected, splitOfMetered}
 use Rattle.record.specs.declared.GeneratorTerms.{GeneratorTerms}
 use Rattle.record.specs.declared.ConsumerTerms.{ConsumerTerms}
@@ -22,7 +22,7 @@ countsSound G C rate cycle gone blocks month =
 -- one generator of the agreement, with the sum of its scheduled kW, which is within the lower of its capacities (5.1)
 unfoldable pub agreedSound : Bool → ℕ → ℕ → ℕ → ℕ → Bool
 agreedSound inside kind installed contracted total =
-    leb kind (limit inside lastKind) && leb installed (limit inside mostCapacity) && leb contracted (limit inside mostCapacity) && leb total (min installed contracted)
+    leb kind (limit inside lastKind) && leb installed (limit inside mostCapacity) && leb contracted (limit inside mostCapacity) && leb total (lowerCapacity installed contracted)
 
 -- one pair: an unlinked one has 0 kW
 unfoldable pub pairSound : Bool → ℕ → ℕ → ℕ → ℕ → Bool

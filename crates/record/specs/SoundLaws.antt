@@ -1,5 +1,5 @@
 -- From the test of soundness to facts, and back. Assumes nothing.
-use Prim.Native.Nat.{ℕ, _*_, _≤_, _<_, min}
+use Prim.Native.Nat.{ℕ, _*_, _≤_, _<_}
 use mathlib.Core.Path.{_≡_, refl, _∙_, sym, subst}
 use mathlib.Core.Bool.{Bool, true, false, _&&_, _||_, false≢true}
 use mathlib.Core.List.{[], _∷_}
@@ -11,7 +11,7 @@ use borrow.Author.Tests.{leb-true, eqb-true, eqb-false, ltb-true, ltb-false, le-
 use Rattle.lists.specs.Sums.{sum-zero, sum-part}
 use Rattle.lists.specs.Tests.{all, within, all-at, all-from, and-left, and-right, and-both, chain-at, within-low, within-high, within-from}
 use Rattle.energy.specs.Limits.{mostGenerators, mostConsumers, lastKind, mostCapacity, mostLoss, mostRate, mostCycle, mostRank, mostReading, mostMonthBlocks, mostUnitBlocks, mostFigure}
-use Rattle.delivery_rules.specs.Plan.{scheduled}
+use Rattle.delivery_rules.specs.Plan.{lowerCapacity, scheduled}
 use Rattle.delivery_rules.specs.Orderable.{Orderable}
 use Rattle.record.specs.Book.{Book, splitOfInjected, splitOfMetered, noInjection, noConsumption}
 use Rattle.record.specs.Sound.{limit, countsSound, agreedSound, pairSound, generatorSound, consumerSound, sound}
@@ -37,7 +37,7 @@ pub record AgreedFacts (inside : Bool) (k i n s : ℕ) : Type 0 where
   pub kind : k ≤ lastKind
   pub installed : i ≤ mostCapacity
   pub contracted : n ≤ mostCapacity
-  pub total : s ≤ min i n
+  pub total : s ≤ lowerCapacity i n
   pub beyond : inside ≡ false → (k ≡ 0) × ((i ≡ 0) × (n ≡ 0))
 
 pub record PairFacts (inside : Bool) (l s k r : ℕ) : Type 0 where
@@ -141,7 +141,7 @@ module _ (inside : Bool) (k i n s : ℕ) where
   pub agreed-facts : agreedSound inside k i n s ≡ true → AgreedFacts inside k i n s
   unfolding agreedSound
   agreed-facts e =
-      let w = chain-at (leb k (limit inside lastKind)) (leb i (limit inside mostCapacity) ∷ leb n (limit inside mostCapacity) ∷ leb s (min i n) ∷ []) e in
+      let w = chain-at (leb k (limit inside lastKind)) (leb i (limit inside mostCapacity) ∷ leb n (limit inside mostCapacity) ∷ leb s (lowerCapacity i n) ∷ []) e in
       let a : k ≤ limit inside lastKind = leb-true _ _ (w 0) in
       let b : i ≤ limit inside mostCapacity = leb-true _ _ (w 1) in
       let d : n ≤ limit inside mostCapacity = leb-true _ _ (w 2) in
@@ -160,7 +160,7 @@ module _ (inside : Bool) (k i n s : ℕ) where
       (and-both
       (and-both (limit-from inside k lastKind (f .kind) (λ z. f .beyond z .0)) (limit-from inside i mostCapacity (f .installed) (λ z. f .beyond z .1 .0)))
       (limit-from inside n mostCapacity (f .contracted) (λ z. f .beyond z .1 .1)))
-      (le-leb s (min i n) (f .total))
+      (le-leb s (lowerCapacity i n) (f .total))
 
 module _ (inside : Bool) (l s k r : ℕ) where
   linked : (t : Bool) → eqb l 1 ≡ t → t || eqb k 0 ≡ true → l ≡ 0 → k ≡ 0

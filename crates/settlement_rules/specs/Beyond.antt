@@ -5,11 +5,10 @@ use mathlib.Core.Bool.{Bool, true, false}
 use mathlib.Core.Logic.{_⊎_}
 use native.Mathlib.Omega.{arith}
 use Rattle.lists.specs.Choice.{if_then_else_}
-use Rattle.energy.specs.Energy.{quarterHour, lossOn}
 use Rattle.energy.specs.EnergyLaws.{loss-zero}
 use Rattle.order_rules.specs.SettleLaws.{unmet-le}
 use Rattle.delivery_rules.specs.Plan.{Plan, deemed, order}
-use Rattle.delivery_rules.specs.Delivery.{unaccounted, lossOf, delivered, atExit}
+use Rattle.delivery_rules.specs.Delivery.{unaccounted, lossOf, delivered, scheduledAtExit, atExit}
 use Rattle.delivery_rules.specs.Deliverable.{Deliverable}
 use Rattle.delivery_rules.specs.DeliveryLaws.{part-of-no-kw}
 use Rattle.settlement_rules.specs.Settlement.{setOff, afterSetOff, underdrawn, shortfall, remainder}
@@ -29,10 +28,7 @@ module _ (p : Plan) (g e c : ℕ) (none : p .kw g c ≡ 0) where
   unfolding atExit
   exit-unscheduled = go (deemed p g)
     where
-      q : ℕ
-      q = quarterHour (p .kw g c)
-
-      go : (t : Bool) → (if t then delivered p g e c else q - lossOn q (p .loss g c)) ≡ 0
+      go : (t : Bool) → (if t then delivered p g e c else scheduledAtExit p g c) ≡ 0
       go true = delivered-unscheduled
       go false = omega (arith, none)
 

@@ -1,5 +1,5 @@
 -- The tests of the parts of a stored record, as the code goes through them, and that they make up the test of the whole. Assumes nothing.
-use Prim.Native.Nat.{ℕ, zero, suc, _+_, _-_, _*_, _≤_, _<_, min}
+use Prim.Native.Nat.{ℕ, zero, suc, _+_, _-_, _*_, _≤_, _<_}
 use mathlib.Core.Path.{_≡_, refl, sym, ap, ap₂, _∙_}
 use mathlib.Core.Bool.{Bool, true, false, _&&_, _||_}
 use mathlib.Core.List.{List, [], _∷_}
@@ -14,7 +14,7 @@ use Rattle.lists.specs.Tests.{all, all-rows, all-same, all-plus, within, within
 use Rattle.lists.specs.Pairs.{place, cell}
 use Rattle.lists.specs.PairsLaws.{cell-in}
 use Rattle.energy.specs.Limits.{mostGenerators, mostConsumers, mostRate, mostCycle, mostUnitBlocks, mostMonthBlocks}
-use Rattle.delivery_rules.specs.Plan.{scheduled}
+use Rattle.delivery_rules.specs.Plan.{lowerCapacity, scheduled}
 use Rattle.record.specs.Stored.{generatorAt, consumerAt, planOf, figures}
 use Rattle.record.specs.Sound.{countsSound, agreedSound, pairSound, generatorSound, consumerSound, sound}
 use Rattle.record.specs.declared.Record.{Record}
@@ -46,13 +46,13 @@ unfoldable pub consumerTest : Consumers → ℕ → ℕ → ℕ → Bool
 consumerTest t C blocks c = consumerSound blocks (ltb c C) (consumerAt t c)
 
 -- within the lower of two is within both
-pub within-both : (t i n : ℕ) → leb t i && leb t n ≡ leb t (min i n)
+pub within-both : (t i n : ℕ) → leb t i && leb t n ≡ leb t (lowerCapacity i n)
 within-both t i n = go (leb t i) refl (leb t n) refl
   where
-    go : (a : Bool) → leb t i ≡ a → (b : Bool) → leb t n ≡ b → a && b ≡ leb t (min i n)
-    go true e true q = sym (le-leb t (min i n) (omega (arith, leb-true t i e, leb-true t n q)))
-    go true e false q = sym (lt-leb t (min i n) (omega (arith, leb-false t n q)))
-    go false e b q = sym (lt-leb t (min i n) (omega (arith, leb-false t i e)))
+    go : (a : Bool) → leb t i ≡ a → (b : Bool) → leb t n ≡ b → a && b ≡ leb t (lowerCapacity i n)
+    go true e true q = sym (le-leb t (lowerCapacity i n) (omega (arith, leb-true t i e, leb-true t n q)))
+    go true e false q = sym (lt-leb t (lowerCapacity i n) (omega (arith, leb-false t n q)))
+    go false e b q = sym (lt-leb t (lowerCapacity i n) (omega (arith, leb-false t i e)))
 
 -- ---- the same read from the lists, as the code does
 

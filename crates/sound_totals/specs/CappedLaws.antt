@@ -1,5 +1,5 @@
 -- Laws of cut sums. Assumes nothing.
-use Prim.Native.Nat.{ℕ, _+_, _*_, _≤_, _<_, min}
+use Prim.Native.Nat.{ℕ, _+_, _*_, _≤_, _<_}
 use mathlib.Core.Path.{_≡_, refl, subst}
 use mathlib.Core.Bool.{Bool, true, false, _&&_}
 use native.Mathlib.Numerals.{add-one}
@@ -8,6 +8,7 @@ use lib.Dec.{eqb, leb, ltb}
 use borrow.Author.Tests.{leb-true, leb-false, le-leb, lt-leb, eqb-true, eqb-false, eq-eqb, ne-eqb, lt-ltb, le-ltb, ltb-true, ltb-false}
 use Rattle.lists.specs.Sums.{sum}
 use Rattle.energy.specs.Limits.{lastKind, mostCapacity, mostReading, mostUnitBlocks}
+use Rattle.delivery_rules.specs.Plan.{lowerCapacity}
 use Rattle.record.specs.Sound.{limit, agreedSound}
 use Rattle.sound_totals.specs.Capped.{cap, AsFar, Cut, Clipped}
 
@@ -73,8 +74,8 @@ pub capped-total : {s t : ℕ} (inside : Bool) (k i n : ℕ) → Cut s t → agr
 unfolding agreedSound
 capped-total {s} {t} inside k i n h = go (leb k (limit inside lastKind)) (leb i (limit inside mostCapacity)) (leb n (limit inside mostCapacity)) refl
   where
-    go : (a b d : Bool) → leb i (limit inside mostCapacity) ≡ b → (a && b && d && leb s (min i n)) ≡ (a && b && d && leb t (min i n))
-    go true true true e = cut-leb (min i n) (omega (arith, leb-true i (limit inside mostCapacity) e, limit-le inside mostCapacity)) h
+    go : (a b d : Bool) → leb i (limit inside mostCapacity) ≡ b → (a && b && d && leb s (lowerCapacity i n)) ≡ (a && b && d && leb t (lowerCapacity i n))
+    go true true true e = cut-leb (lowerCapacity i n) (omega (arith, leb-true i (limit inside mostCapacity) e, limit-le inside mostCapacity)) h
     go false b d e = refl
     go true false d e = refl
     go true true false e = refl

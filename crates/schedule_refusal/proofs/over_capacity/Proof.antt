@@ -1,19 +1,16 @@
 -- `schedule_refusal::over_capacity` meets its contract: after g turns it is known whether one of the first g generators is over a capacity. Assumes nothing.
-use Prim.Native.Nat.{_-_, min}
+use Prim.Native.Nat.{_-_}
 use native.Mathlib.Omega.{arith}
-use lib.Dec.{ltb}
 use borrow.Author.Needs.{needs}
-use Rattle.lists.specs.Pairs.{place, cell}
-use Rattle.lists.specs.Sums.{sum}
 use Rattle.lists.specs.Tests.{Looking, look-start, look-step, look-done}
 use Rattle.agreement_rules.specs.ReadingLaws.{first-row-at}
-use Rattle.agreement_rules.specs.Refusing.{overCapacity}
+use Rattle.agreement_rules.specs.Refusing.{overAt, overCapacity}
 use Rattle.agreement_rules.specs.RefusingLaws.{row-over}
 use Rattle.schedule_refusal.proofs.over_capacity.Statement.{statement}
 use Rattle.schedule_refusal.proofs.over_capacity.Tie as tie
 
 abbrev Inv-loop : tie.InvT-loop
-Inv-loop n m kws agreed found₀ g₀ found g = Looking n (λ j. ltb (min (place 8 (agreed .installed) j) (place 8 (agreed .contracted) j)) (sum m (cell n m kws j))) g found
+Inv-loop n m kws agreed found₀ g₀ found g = Looking n (overAt agreed n m kws) g found
 
 abbrev μ-loop : tie.MeasureT-loop
 μ-loop n m kws agreed found₀ g₀ found g = n - g
