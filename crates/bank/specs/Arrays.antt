@@ -8,7 +8,6 @@ use Rattle.lists.specs.Pairs.{place, pairs}
 use Rattle.energy.specs.Energy.{portionUp}
 use Rattle.energy.specs.Limits.{mostRate, mostFigure}
 use Rattle.order_rules.specs.Settle.{given, kept, unmet}
-use Rattle.delivery_rules.specs.Plan.{Plan}
 use Rattle.closing_rules.specs.Drawing.{stockAt, drawnAt, missingAt}
 use Rattle.bank.specs.declared.Bank.{Bank}
 use Rattle.bank.specs.declared.Credit.{Credit}
@@ -35,15 +34,15 @@ drawOf x gs want =
     let has = place 8 (x .balance) in
     record { bank = record { balance = table 8 (kept gs has want) }; drawn = table 8 (given gs has want); left = unmet gs has want }
 
--- Steps 2 and 3 for all consumers
-unfoldable pub drawingOf : Plan → Bank → List ℕ → Drawing
-drawingOf p x outstanding =
+-- Steps 2 and 3 for m consumers, by those who serve each
+unfoldable pub drawingOf : (ℕ → List ℕ) → ℕ → Bank → List ℕ → Drawing
+drawingOf serving m x outstanding =
     let has = place 8 (x .balance) in
     let want = place 16 outstanding in
     record {
-      bank = record { balance = table 8 (stockAt p has want (p .C)) };
-      drawn = pairs 8 16 (drawnAt p has want);
-      supplied = table 16 (missingAt p has want);
+      bank = record { balance = table 8 (stockAt serving has want m) };
+      drawn = pairs 8 16 (drawnAt serving has want);
+      supplied = table 16 (missingAt serving has want);
     }
 
 -- Step 4: where the cycle ends every balance lapses

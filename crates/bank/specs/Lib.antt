@@ -1,3 +1,3 @@
 pub mod Arrays
 pub mod BankLaws
-pub mod DrawingLaws
+pub mod DrawingSteps

@@ -3,13 +3,16 @@ use Prim.Native.Nat.{ℕ, _+_, _*_, _≤_, _<_}
 use mathlib.Core.Path.{_≡_, sym, ap, _∙_}
 use mathlib.Core.Bool.{Bool}
 use mathlib.Core.List.{List}
+use native.Mathlib.Omega.{arith}
 use lib.Dec.{eqb}
 use lib.ListN.{getD}
 use Rattle.lists.specs.Tables.{table}
 use Rattle.lists.specs.Pairs.{place}
 use Rattle.order_rules.specs.Order.{only}
+use Rattle.order_rules.specs.Members.{Below, below-more}
 use Rattle.order.specs.Arrays.{turnsOf}
 use Rattle.delivery_rules.specs.Plan.{order, suppliers}
+use Rattle.delivery_rules.specs.DeliveryLaws.{suppliers-within}
 use Rattle.codec.specs.Bytes.{decode}
 use Rattle.record.specs.Words.{recordOf}
 use Rattle.record.specs.Called.{numberOn}
@@ -52,3 +55,7 @@ pub suppliers-are : (s : List ℕ) (c n : ℕ) (keys : List ℕ) {links : List �
     only (λ g. eqb (place 8 links g) 1) (turnsOf keys n) ≡ suppliers (planIn s) c
 unfolding suppliers
 suppliers-are s c n keys l turns links-are = rw (turns, link-column s c l links-are)
+
+-- they are generators of the record's width
+pub suppliers-few : (s : List ℕ) (c : ℕ) {n : ℕ} → n ≡ planIn s .G → n ≤ 8 → Below 8 (suppliers (planIn s) c)
+suppliers-few s c e h = below-more (planIn s .G) 8 (suppliers (planIn s) c) (omega arith) (suppliers-within (planIn s) c)

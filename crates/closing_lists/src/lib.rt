@@ -3,11 +3,12 @@
 ghost use mathlib.Core.Path.{_≡_};
 ghost use lib.ListN.{length};
 ghost use Rattle.codec.specs.Bytes.{decode};
+ghost use Rattle.delivery_rules.specs.Plan.{suppliers};
 ghost use Rattle.record.specs.Called.{numberOn};
 ghost use Rattle.record.specs.Words.{recordOf};
 ghost use Rattle.layout_rules.specs.OnBytes.{planIn, bookIn};
 ghost use Rattle.bank.specs.Arrays.{drawingOf};
-ghost use Rattle.bank.specs.DrawingLaws.{Drawable};
+ghost use Rattle.bank.specs.DrawingSteps.{Drawable};
 ghost use Rattle.closing_rules.specs.Closing.{closingOutput, closingRule};
 ghost use Rattle.closing_steps.specs.Output.{OutputRoom, sixLists};
 use bank::Bank;
@@ -17,7 +18,7 @@ use bank::Drawing;
 // and places from m on stay the zeros that they are made with.
 fn draw_all(s: &[u8], bank: Bank, n: usize, m: usize, outstanding: [u64; 16]) -> Drawing
     requires { ⌜ (length (now s) ≡ 5752) × Drawable (planIn (now s)) n m outstanding ⌝ }
-    ensures { λ r. ⌜ r ≡ drawingOf (planIn (now (s .entry))) bank outstanding ⌝ }
+    ensures { λ r. ⌜ r ≡ drawingOf (suppliers (planIn (now (s .entry)))) m bank outstanding ⌝ }
 {
     let mut drawn = [0u64; 128];
     let mut supplied = [0u64; 16];

@@ -10,6 +10,7 @@ use Rattle.lists.specs.Tables.{table}
 use Rattle.lists.specs.Pairs.{pairs, joined}
 use Rattle.lists.specs.Refusals.{firstOf}
 use Rattle.energy.specs.Energy.{portionUp}
+use Rattle.delivery_rules.specs.Plan.{suppliers}
 use Rattle.record.specs.Book.{Book}
 use Rattle.record.specs.Called.{Rule, Called}
 use Rattle.record.specs.declared.Record.{Record}
@@ -29,16 +30,16 @@ module _ (b : Book) where
   unfoldable pub credited : ℕ → ℕ
   credited g = b .gen g .bank + (takenUp g - charge g)
 
-  -- Step 2: the banks when the turn comes to consumer c, and what it draws.
+  -- Step 2: the banks when the turn comes to consumer c, and what it draws: its linked generators give in the inter-se order that stands now.
   unfoldable pub banks : ℕ → ℕ → ℕ
-  banks = stockAt (b .plan) credited (λ c. b .con c .outstanding)
+  banks = stockAt (suppliers (b .plan)) credited (λ c. b .con c .outstanding)
 
   unfoldable pub drawn : ℕ → ℕ → ℕ
-  drawn = drawnAt (b .plan) credited (λ c. b .con c .outstanding)
+  drawn = drawnAt (suppliers (b .plan)) credited (λ c. b .con c .outstanding)
 
   -- Step 3: supplied by the local licensee.
   unfoldable pub supplied : ℕ → ℕ
-  supplied = missingAt (b .plan) credited (λ c. b .con c .outstanding)
+  supplied = missingAt (suppliers (b .plan)) credited (λ c. b .con c .outstanding)
 
   -- Step 4: at the end of the cycle every bank lapses.
   unfoldable pub lapses : Bool

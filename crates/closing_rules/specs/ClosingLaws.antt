@@ -1,26 +1,24 @@
 -- Laws of a closing: every subtraction is exact, what it takes it enters elsewhere, it keeps soundness and the cross totals, and
 -- no linked pair is left with bank before the lapse beside energy supplied. Assumes nothing.
-use Prim.Native.Nat.{ℕ, suc, _+_, _-_, _≤_, _<_}
+use Prim.Native.Nat.{ℕ, _+_, _≤_, _<_}
 use mathlib.Core.Path.{_≡_, refl}
 use mathlib.Core.Bool.{Bool, true, false}
 use mathlib.Core.Logic.{_⊎_, inl, inr, ⊎-elim}
 use native.Mathlib.Omega.{arith}
-use native.Mathlib.Nat.{eq-zero-or-pos}
 use borrow.Author.Tests.{eq-eqb, eqb-true, eqb-false}
 use lib.Dec.{eqb, ltb}
 use Rattle.lists.specs.Choice.{if_then_else_}
-use Rattle.lists.specs.Sums.{sum, sum-cong, sum-falls, sum-both-ways, never-rises}
+use Rattle.lists.specs.Sums.{sum, sum-both-ways}
 use Rattle.lists.specs.Refusals.{firstOf, first-or}
 use Rattle.energy.specs.EnergyLaws.{portion-le}
 use Rattle.order_rules.specs.Members.{In, order-in, only-in}
 use Rattle.order_rules.specs.OrderLaws.{Ahead, order-sorted, only-sorted}
-use Rattle.order_rules.specs.SettleLaws.{given-sum, given-le, given-all, kept-is, earlier-first}
 use Rattle.delivery_rules.specs.Plan.{standing, order, suppliers}
 use Rattle.delivery_rules.specs.DeliveryLaws.{suppliers-within}
 use Rattle.record.specs.Book.{Book}
 use Rattle.record.specs.CalledLaws.{Keeps}
 use Rattle.record.specs.SoundLaws.{Facts, GeneratorFacts, ConsumerFacts}
-use Rattle.closing_rules.specs.Drawing.{stockAt, drawnAt, missingAt}
+use Rattle.closing_rules.specs.DrawingLaws as Turns
 use Rattle.closing_rules.specs.Closing.{takenUp, charge, credited, banks, drawn, supplied, lapses, goneAfter, bankBeforeLapse, lapsed, bankAfter, generatorAfterClosing, consumerAfterClosing, afterClosing, closingLength, closingNumber, closingRefusal, closingRule}
 
 module _ (b : Book) where
@@ -29,37 +27,14 @@ module _ (b : Book) where
   unfolding charge
   charge-le g h = portion-le (takenUp b g) (b .rate) h
 
-  -- what is drawn is taken from the bank, exactly
-  pub drawn-le : (g c : ℕ) → drawn b g c ≤ banks b c g
-  unfolding drawn drawnAt banks
-  drawn-le g c = given-le (suppliers (b .plan) c) (banks b c) (b .con c .outstanding) g
+  -- what is drawn is taken from what step 1 leaves in the bank, and what a bank has lost in step 2 is what was drawn on it
+  pub drawn-most : (g c : ℕ) → drawn b g c ≤ credited b g
+  unfolding drawn
+  drawn-most g c = Turns.drawn-most _ _ _ g c
 
-  pub banks-next : (g c : ℕ) → banks b (suc c) g ≡ banks b c g - drawn b g c
-  unfolding banks drawn stockAt drawnAt
-  banks-next g c = kept-is (suppliers (b .plan) c) (banks b c) (b .con c .outstanding) g
-
-  banks-fall : (g c : ℕ) → banks b (suc c) g ≤ banks b c g
-  banks-fall g c = omega (arith, banks-next g c)
-
-  pub banks-first : (g : ℕ) → banks b 0 g ≡ credited b g
-  unfolding banks stockAt
-  banks-first g = refl
-
-  -- what a generator's bank has lost to the consumers is what they drew on it
-  pub all-drawn : (g : ℕ) → sum (b .plan .C) (drawn b g) + bankBeforeLapse b g ≡ credited b g
-  unfolding bankBeforeLapse
-  all-drawn g =
-      let e = sum-cong (b .plan .C) (drawn b g) (λ c. banks b c g - banks b (suc c) g) (λ c l. omega (arith, banks-next g c, drawn-le g c)) in
-      omega (arith, sum-falls (b .plan .C) (λ c. banks b c g) (λ c l. banks-fall g c), banks-first g)
-
-  -- what a generator had pending and in the bank is charge, drawn, lapsed and bank
-  pub generator-split : (g : ℕ) → b .rate ≤ 10_000 → b .gen g .bank + takenUp b g ≡ charge b g + sum (b .plan .C) (drawn b g) + lapsed b g + bankAfter b g
-  unfolding credited lapsed bankAfter
-  generator-split g h = omega (arith, charge-le g h, all-drawn g, either (lapses b))
-    where
-      either : (t : Bool) → (if t then bankBeforeLapse b g else 0) + (if t then 0 else bankBeforeLapse b g) ≡ bankBeforeLapse b g
-      either true = omega arith
-      either false = omega arith
+  all-drawn : (g : ℕ) → sum (b .plan .C) (drawn b g) + bankBeforeLapse b g ≡ credited b g
+  unfolding drawn bankBeforeLapse banks
+  all-drawn g = Turns.all-drawn _ _ _ (b .plan .C) g
 
   -- bank before the lapse is what the output's lapsed and bank add up to
   pub before-lapse-is : (g : ℕ) → lapsed b g + bankAfter b g ≡ bankBeforeLapse b g
@@ -70,35 +45,32 @@ module _ (b : Book) where
       either true = omega arith
       either false = omega arith
 
+  -- what a generator had pending and in the bank is charge, drawn, lapsed and bank
+  pub generator-split : (g : ℕ) → b .rate ≤ 10_000 → b .gen g .bank + takenUp b g ≡ charge b g + sum (b .plan .C) (drawn b g) + lapsed b g + bankAfter b g
+  unfolding credited
+  generator-split g h = omega (arith, charge-le g h, all-drawn g, before-lapse-is g)
+
   -- what a consumer had open is drawn and supplied
   pub consumer-split : (c : ℕ) → sum (b .plan .G) (λ g. drawn b g c) + supplied b c ≡ b .con c .outstanding
-  unfolding drawn supplied drawnAt missingAt banks
-  consumer-split c = given-sum (b .plan .G) (suppliers (b .plan) c) (banks b c) (b .con c .outstanding) (suppliers-within (b .plan) c)
+  unfolding drawn supplied
+  consumer-split c = Turns.turn-split _ _ _ (b .plan .G) c (suppliers-within (b .plan) c)
 
   supplier-in : (g c : ℕ) → g < b .plan .G → b .plan .link g c ≡ 1 → In g (suppliers (b .plan) c)
   unfolding suppliers order
   supplier-in g c h l = only-in (λ g. eqb (b .plan .link g c) 1) g (order (b .plan) c) (eq-eqb _ 1 l) (order-in (standing (b .plan) c) (b .plan .G) g h)
 
-  used-up : (g c : ℕ) → In g (suppliers (b .plan) c) → 0 < supplied b c → drawn b g c ≡ banks b c g
-  unfolding drawn supplied drawnAt missingAt banks
-  used-up g c m h = given-all (suppliers (b .plan) c) (banks b c) (b .con c .outstanding) g m h
-
   -- no linked pair's generator still has bank before the lapse while its consumer has energy supplied
   pub none-idle : (g c : ℕ) → g < b .plan .G → c < b .plan .C → b .plan .link g c ≡ 1 → (bankBeforeLapse b g ≡ 0) ⊎ (supplied b c ≡ 0)
-  unfolding bankBeforeLapse
-  none-idle g c hg hc l =
-      ⊎-elim
-      (λ (e : supplied b c ≡ 0). inr e)
-      (λ (h : 0 < supplied b c). inl (omega (arith, used-up g c (supplier-in g c hg l) h, banks-next g c, never-rises (λ k. banks b k g) (banks-fall g) (suc c) (b .plan .C) hc)))
-      (eq-zero-or-pos (supplied b c))
+  unfolding bankBeforeLapse banks supplied
+  none-idle g c hg hc l = Turns.none-idle _ _ _ (b .plan .C) g c hc (supplier-in g c hg l)
 
   -- a later generator's bank is drawn only where every earlier linked one's is used up
   pub earlier-drawn :
       (g h c : ℕ) → g < b .plan .G → h < b .plan .G → b .plan .link g c ≡ 1 → b .plan .link h c ≡ 1 → Ahead (standing (b .plan) c) g h →
       0 < drawn b h c → drawn b g c ≡ banks b c g
-  unfolding drawn drawnAt banks suppliers order
+  unfolding drawn banks suppliers order
   earlier-drawn g h c hg hh lg lh a l =
-      earlier-first (standing (b .plan) c) (suppliers (b .plan) c) (banks b c) (b .con c .outstanding) g h
+      Turns.earlier-drawn _ _ _ (standing (b .plan) c) g h c
       (only-sorted (standing (b .plan) c) (λ g. eqb (b .plan .link g c) 1) (order (b .plan) c) (order-sorted (standing (b .plan) c) (b .plan .G)))
       (supplier-in g c hg lg) (supplier-in h c hh lh) a l
 

@@ -1,18 +1,18 @@
--- Step 2 of a closing: consumers draw, one after the other, on what the generators have banked. Assumes nothing.
+-- Step 2 of a closing: turn after turn somebody draws on stocks, by the list of those that serve the turn. Assumes nothing.
 use Prim.Native.Nat.{ℕ, zero, suc}
+use mathlib.Core.List.{List}
 use Rattle.order_rules.specs.Settle.{given, kept, unmet}
-use Rattle.delivery_rules.specs.Plan.{Plan, suppliers}
 
--- stock by generator at first, and what each consumer wants
-module _ (p : Plan) (stock want : ℕ → ℕ) where
-  -- the stock when the turn comes to consumer c: its linked generators give in the inter-se order that stands now
+-- who serves each turn, in their order; what each has at first; what each turn wants
+module _ (serving : ℕ → List ℕ) (stock want : ℕ → ℕ) where
+  -- the stocks when the turn comes
   unfoldable pub stockAt : ℕ → ℕ → ℕ
   stockAt zero = stock
-  stockAt (suc c) = kept (suppliers p c) (stockAt c) (want c)
+  stockAt (suc t) = kept (serving t) (stockAt t) (want t)
 
   unfoldable pub drawnAt : ℕ → ℕ → ℕ
-  drawnAt g c = given (suppliers p c) (stockAt c) (want c) g
+  drawnAt s t = given (serving t) (stockAt t) (want t) s
 
   -- what nobody gives
   unfoldable pub missingAt : ℕ → ℕ
-  missingAt c = unmet (suppliers p c) (stockAt c) (want c)
+  missingAt t = unmet (serving t) (stockAt t) (want t)

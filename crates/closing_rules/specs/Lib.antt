@@ -1,4 +1,5 @@
 pub mod Drawing
+pub mod DrawingLaws
 pub mod Closing
 pub mod ClosingLaws
 pub mod ClosingOutput

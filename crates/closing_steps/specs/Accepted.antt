@@ -6,6 +6,7 @@ use mathlib.Core.List.{List}
 use native.Mathlib.Omega.{arith}
 use lib.Dec.{eqb}
 use lib.ListN.{length}
+use Rattle.delivery_rules.specs.Plan.{suppliers}
 use Rattle.record.specs.Book.{noConsumption}
 use Rattle.record.specs.Stored.{generatorAt, consumerAt, planOf, figures}
 use Rattle.record.specs.SoundLaws.{Facts, orderable, injected-most, con-beyond}
@@ -14,7 +15,7 @@ use Rattle.record.specs.CalledLaws.{accepted-sound, number-sound, record-facts}
 use Rattle.record.specs.declared.ConsumerTerms.{ConsumerTerms}
 use Rattle.record.specs.declared.Record.{Record}
 use Rattle.bank.specs.Arrays.{Creditable, creditOf, drawingOf, lapseOf}
-use Rattle.bank.specs.DrawingLaws.{Drawable}
+use Rattle.bank.specs.DrawingSteps.{Drawable}
 use Rattle.closing_rules.specs.Closing.{closingOutput, closingLength, closingRule}
 use Rattle.bank.specs.declared.Credit.{Credit}
 use Rattle.bank.specs.declared.Drawing.{Drawing}
@@ -52,7 +53,6 @@ module _ (r : Record) (size : ℕ) (z : numberOn (closingRule size) r ≡ 0) whe
   drawable =
       record {
         G-is = refl;
-        C-is = refl;
         G-high = generators-few;
         C-high = consumers-few;
         orderable = orderable (figures r) facts;
@@ -81,12 +81,12 @@ module _ (r : Record) (size : ℕ) (z : numberOn (closingRule size) r ≡ 0) {n 
 
   -- the lists that the steps give are the output of the rules
   pub lists-are : {k : Credit} {d : Drawing} {ends : Bool} {l : Lapse} {out : List ℕ} →
-      k ≡ creditOf (record { balance = held }) pending rate → d ≡ drawingOf (planOf r) (k .bank) outstanding → ends ≡ eqb (r .counts .gone + 1) (r .terms .cycle) →
+      k ≡ creditOf (record { balance = held }) pending rate → d ≡ drawingOf (suppliers (planOf r)) m (k .bank) outstanding → ends ≡ eqb (r .counts .gone + 1) (r .terms .cycle) →
       l ≡ lapseOf (d .bank) ends → out ≡ sixLists (d .drawn) (k .charge) (l .lapsed) (l .bank .balance) outstanding (d .supplied) n m → out ≡ closingOutput (figures r)
   unfolding monthIn monthWritten
   lists-are {k} {d} {ends} {l} credited drawn-on ended lapsed-so written =
       let credit = rw (x .held-is, x .pending-is, x .rate-is) at credited in
-      let drawing = (rw (x .open-is) at drawn-on) ∙ ap (λ (k : Credit). drawingOf (planOf r) (k .bank) (r .consumers .outstanding)) credit in
+      let drawing = (rw (x .consumers, x .open-is) at drawn-on) ∙ ap (λ (k : Credit). drawingOf (suppliers (planOf r)) (r .terms .consumers) (k .bank) (r .consumers .outstanding)) credit in
       let lapse = lapsed-so ∙ ap₂ (λ (d : Drawing) (e : Bool). lapseOf (d .bank) e) drawing ended in
       let month : monthMade k d l ≡ monthIn r = λ i. monthMade (credit i) (drawing i) (lapse i) in
       written ∙ rw (x .open-is, x .generators, x .consumers)

@@ -8,6 +8,7 @@ use Rattle.lists.specs.Choice.{if_then_else_}
 use Rattle.lists.specs.Tables.{table, getD-table, table-same}
 use Rattle.lists.specs.Pairs.{place, pairs}
 use Rattle.lists.specs.PairsLaws.{place-in, place-out, place-table}
+use Rattle.delivery_rules.specs.Plan.{suppliers}
 use Rattle.record.specs.Book.{Book}
 use Rattle.record.specs.Stored.{generatorAt, consumerAt, planOf, figures}
 use Rattle.record.specs.declared.Record.{Record}
@@ -36,7 +37,7 @@ unfoldable pub monthIn : Record → Month
 monthIn r =
     let t = r .terms in
     let credit = creditOf (record { balance = r .generators .bank }) (r .generators .pending) (t .rate) in
-    let drawing = drawingOf (planOf r) (credit .bank) (r .consumers .outstanding) in
+    let drawing = drawingOf (suppliers (planOf r)) (t .consumers) (credit .bank) (r .consumers .outstanding) in
     monthMade credit drawing (lapseOf (drawing .bank) (eqb (r .counts .gone + 1) (t .cycle)))
 
 -- by the figures
@@ -45,46 +46,39 @@ monthOf b =
     record { charge = table 8 (charge b); drawn = pairs 8 16 (drawn b); supplied = table 16 (supplied b); lapsed = table 8 (lapsed b); balance = table 8 (bankAfter b) }
 
 module _ (r : Record) where
+  abbrev b : Book
+  b = figures r
+
   has : ℕ → ℕ
-  has = place 8 (table 8 (credited (figures r)))
+  has = place 8 (table 8 (credited b))
 
-  want : ℕ → ℕ
-  want = place 16 (r .consumers .outstanding)
-
-  none-beyond : (g : ℕ) → 8 ≤ g → credited (figures r) g ≡ 0
+  none-beyond : (g : ℕ) → 8 ≤ g → credited b g ≡ 0
   unfolding credited takenUp figures generatorAt
   none-beyond g h = omega (arith, place-out 8 (r .generators .bank) g h, place-out 8 (r .generators .pending) g h)
 
-  has-is : has ≡ credited (figures r)
+  -- the array that is credited holds what step 1 leaves in the bank; by it the turns of step 2 are those of the rules
+  has-is : has ≡ credited b
   unfolding has
-  has-is = place-table 8 (credited (figures r)) none-beyond
+  has-is = place-table 8 (credited b) none-beyond
 
-  stock-is : (c : ℕ) → stockAt (planOf r) has want c ≡ banks (figures r) c
-  unfolding want banks figures consumerAt
-  stock-is c = ap (λ (h : ℕ → ℕ). stockAt (planOf r) h want c) has-is
+  left : ℕ → ℕ
+  left = stockAt (suppliers (planOf r)) has (place 16 (r .consumers .outstanding)) (r .terms .consumers)
 
-  drawn-is : (g c : ℕ) → drawnAt (planOf r) has want g c ≡ drawn (figures r) g c
-  unfolding want drawn figures consumerAt
-  drawn-is g c = ap (λ (h : ℕ → ℕ). drawnAt (planOf r) h want g c) has-is
+  left-is : (g : ℕ) → g < 8 → place 8 (table 8 left) g ≡ bankBeforeLapse b g
+  unfolding left bankBeforeLapse banks figures planOf consumerAt
+  left-is g l =
+      place-in 8 (table 8 left) g l ∙ getD-table 8 left g 0 l ∙ (λ i. stockAt (suppliers (planOf r)) (has-is i) (place 16 (r .consumers .outstanding)) (r .terms .consumers) g)
 
-  supplied-is : (c : ℕ) → missingAt (planOf r) has want c ≡ supplied (figures r) c
-  unfolding want supplied figures consumerAt
-  supplied-is c = ap (λ (h : ℕ → ℕ). missingAt (planOf r) h want c) has-is
-
-  stands : (g : ℕ) → g < 8 → place 8 (table 8 (stockAt (planOf r) has want (r .terms .consumers))) g ≡ bankBeforeLapse (figures r) g
-  unfolding bankBeforeLapse figures planOf
-  stands g l =
-      let f = stockAt (planOf r) has want (r .terms .consumers) in
-      place-in 8 (table 8 f) g l ∙ getD-table 8 f g 0 l ∙ ap (λ (s : ℕ → ℕ). s g) (stock-is (r .terms .consumers))
-
-  pub month-is : monthIn r ≡ monthOf (figures r)
-  unfolding monthIn monthOf creditOf drawingOf lapseOf has want credited charge takenUp lapsed bankAfter lapses figures generatorAt planOf
+  pub month-is : monthIn r ≡ monthOf b
+  unfolding monthIn monthOf creditOf drawingOf lapseOf has left credited charge takenUp drawn supplied lapsed bankAfter lapses figures generatorAt consumerAt planOf
   month-is =
+      let serving = suppliers (planOf r) in
+      let want = place 16 (r .consumers .outstanding) in
       let ends = eqb (r .counts .gone + 1) (r .terms .cycle) in
       λ i. record {
-        charge = table 8 (charge (figures r));
-        drawn = pairs 8 16 (λ g c. drawn-is g c i);
-        supplied = table 16 (λ c. supplied-is c i);
-        lapsed = table-same 8 _ (lapsed (figures r)) (λ g l. ap (λ (x : ℕ). if ends then x else 0) (stands g l)) i;
-        balance = table-same 8 _ (bankAfter (figures r)) (λ g l. ap (λ (x : ℕ). if ends then 0 else x) (stands g l)) i;
+        charge = table 8 (charge b);
+        drawn = pairs 8 16 (drawnAt serving (has-is i) want);
+        supplied = table 16 (missingAt serving (has-is i) want);
+        lapsed = table-same 8 _ (lapsed b) (λ g l. ap (λ (x : ℕ). if ends then x else 0) (left-is g l)) i;
+        balance = table-same 8 _ (bankAfter b) (λ g l. ap (λ (x : ℕ). if ends then 0 else x) (left-is g l)) i;
       }

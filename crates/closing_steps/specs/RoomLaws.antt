@@ -1,14 +1,13 @@
 -- No number of a closing's output is more than a sound record's. Assumes nothing.
 use Prim.Native.Nat.{ℕ, _≤_}
 use native.Mathlib.Omega.{arith}
-use Rattle.lists.specs.Sums.{never-rises}
 use Rattle.energy.specs.Limits.{mostFigure}
 use Rattle.arrays.specs.Bounds.{Moderate}
 use Rattle.arrays.specs.BoundsLaws.{moderate-table, moderate-rows, no-more, and-then, moderate-joined}
 use Rattle.record.specs.Book.{Book}
 use Rattle.record.specs.SoundLaws.{Facts, injected-most, metered-most}
-use Rattle.closing_rules.specs.Closing.{takenUp, charge, credited, banks, drawn, supplied, lapsed, bankAfter, closingLists, closingOutput}
-use Rattle.closing_rules.specs.ClosingLaws.{drawn-le, banks-next, banks-first, generator-split, consumer-split}
+use Rattle.closing_rules.specs.Closing.{takenUp, charge, credited, drawn, supplied, lapsed, bankAfter, closingLists, closingOutput}
+use Rattle.closing_rules.specs.ClosingLaws.{drawn-most, generator-split, consumer-split}
 
 -- what a closing enters is part of what was pending, banked or open
 module _ (b : Book) (f : Facts b) where
@@ -23,13 +22,9 @@ module _ (b : Book) (f : Facts b) where
   unfolding takenUp
   lapsed-small g = omega (arith, generator-split b g rate-low, injected-most b f g, f .gen g .equation)
 
-  -- the banks only fall as consumers draw
-  banks-most : (g c : ℕ) → banks b c g ≤ credited b g
-  banks-most g c = omega (arith, banks-first b g, never-rises (λ k. banks b k g) (λ k. omega (arith, banks-next b g k)) 0 c (omega arith))
-
   drawn-small : (g c : ℕ) → drawn b g c ≤ mostFigure
   unfolding credited takenUp
-  drawn-small g c = omega (arith, drawn-le b g c, banks-most g c, injected-most b f g, f .gen g .equation)
+  drawn-small g c = omega (arith, drawn-most b g c, injected-most b f g, f .gen g .equation)
 
   supplied-small : (c : ℕ) → supplied b c ≤ mostFigure
   supplied-small c = omega (arith, consumer-split b c, metered-most b f c, f .con c .equation)

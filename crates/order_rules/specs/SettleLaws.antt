@@ -146,6 +146,11 @@ settle-nothing (g ∷ gs) has want h e =
     let y = min (has g) want in
     settle-nothing gs (lower has g y) (want - y) h (omega arith) ∙ lower-none has g y h (omega arith)
 
+-- where nothing is wanted nobody gives
+pub given-nothing : (gs : List ℕ) (has : ℕ → ℕ) (want g : ℕ) → want ≡ 0 → given gs has want g ≡ 0
+unfolding given
+given-nothing gs has want g e = omega (arith, settle-nothing gs has want g e)
+
 given-tail : (x : ℕ) (gs : List ℕ) (has : ℕ → ℕ) (want g : ℕ) → (g ≡ x → ⊥) →
     given (x ∷ gs) has want g ≡ given gs (lower has x (min (has x) want)) (want - min (has x) want) g
 unfolding given settle

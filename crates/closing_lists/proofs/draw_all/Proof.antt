@@ -5,16 +5,17 @@ use native.Mathlib.Omega.{arith}
 use borrow.Author.Needs.{needs}
 use Rattle.lists.specs.PairsLaws.{place-in}
 use Rattle.lists.specs.Pairs.{place}
+use Rattle.delivery_rules.specs.Plan.{suppliers}
 use Rattle.layout_rules.specs.OnBytes.{planIn}
-use Rattle.bank.specs.DrawingLaws.{Drawn, drawing-start, drawing-step, drawing-done}
+use Rattle.bank.specs.DrawingSteps.{Drawn, drawing-start, drawing-step, drawing-done}
 use Rattle.turns.specs.TurnsLaws.{turns-held}
-use Rattle.closing_lists.specs.Reading.{suppliers-are}
+use Rattle.closing_lists.specs.Reading.{suppliers-are, suppliers-few}
 use Rattle.closing_lists.proofs.draw_all.Statement.{statement}
 use Rattle.closing_lists.proofs.draw_all.Tie as tie
 
 abbrev Inv-loop : tie.InvT-loop
 Inv-loop s n m outstanding drawn₀ supplied₀ left₀ c₀ drawn supplied left c =
-    Drawn (planIn s) (place 8 (left₀ .balance)) (place 16 outstanding) c left drawn supplied × (c ≤ m)
+    Drawn (suppliers (planIn s)) (place 8 (left₀ .balance)) (place 16 outstanding) c left drawn supplied × (c ≤ m)
 
 abbrev μ-loop : tie.MeasureT-loop
 μ-loop s n m outstanding drawn₀ supplied₀ left₀ c₀ drawn supplied left c = m - c
@@ -84,16 +85,16 @@ loop-again c =
     let i = ranked .before in
     let p = start i .pre .1 in
     let gs = suppliers-are _ (consumer i) _ _ (within i) (ranked .turns-at .ensures) (linked .column-at .ensures) in (
-      drawing-step _ _ _ (omega (arith, p .G-is, p .G-high)) (within i) (i .before .loop .inv .0) (sym (place-in 16 _ _ (within i))) (rw gs at (drew .draw .ensures)) (put .put-column .ensures),
+      drawing-step _ _ _ (suppliers-few (start i .args .s .now) (consumer i) (p .G-is) (p .G-high)) (within i) (i .before .loop .inv .0) (sym (place-in 16 _ _ (within i))) (rw gs at (drew .draw .ensures)) (put .put-column .ensures),
       omega (arith, i .loop-test .taken),
     )
 
 returns : tie.Need-returns Inv-loop μ-loop
 returns c =
+    let start = c .before .before .before in
     let l = c .before .loop in
-    let p = c .before .before .before .pre .1 in
-    let e : l .c ≡ planIn (c .before .before .before .args .s .now) .C = omega (arith, p .C-is) in
-    drawing-done _ _ _ (λ d h. p .beyond d (omega (arith, p .C-is))) (rw e at (l .inv .0))
+    let e : l .c ≡ start .args .m = omega arith in
+    drawing-done _ _ _ (start .pre .1 .beyond) (rw e at (l .inv .0))
 
 pub draw-all-spec : {M : Type 1} → statement M
 draw-all-spec =
