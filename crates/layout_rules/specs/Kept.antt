@@ -1,24 +1,16 @@
 -- A record read from its 719 numbers is stored again as it stands. Assumes nothing.
-use Prim.Native.Nat.{ℕ, zero, suc, _≤_, _<_}
+use Prim.Native.Nat.{ℕ, _≤_, _<_}
 use mathlib.Core.Path.{_≡_, ap, _∙_}
-use mathlib.Core.List.{List, [], _∷_}
+use mathlib.Core.List.{List, []}
 use native.Mathlib.Omega.{arith}
-use lib.ListN.{length, getD, drop, length-drop}
-use lib.Seq.{length-take-le}
+use lib.ListN.{length, getD}
 use Rattle.lists.specs.Tables.{length-table}
 use Rattle.record.specs.Stored.{figures, stored}
 use Rattle.record.specs.Shape.{Shape, record-kept}
 use Rattle.record.specs.SoundLaws.{Facts}
 use Rattle.record.specs.Words.{runLengths, total, words, cut, fromRuns, recordOf}
 use Rattle.energy.specs.Limits.{mostFigure}
-use Rattle.layout_rules.specs.LayoutLaws.{words-of-record, words-low}
-
--- each run has its length
-run-length : (ns ws : List ℕ) → length ws ≡ total ns → (j : ℕ) → j < length ns → length (getD (cut ns ws) j []) ≡ getD ns j 0
-unfolding cut total
-run-length [] ws e j h = absurd (omega arith)
-run-length (n ∷ ns) ws e zero h = length-take-le n ws (omega arith)
-run-length (n ∷ ns) ws e (suc j) h = run-length ns (drop n ws) (omega (arith, length-drop n ws)) j (omega arith)
+use Rattle.layout_rules.specs.LayoutLaws.{run-length, words-of-record, words-low}
 
 module _ (ws : List ℕ) (e : length ws ≡ 719) where
   pub record-shape : Shape (recordOf ws)

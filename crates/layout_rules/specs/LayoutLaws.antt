@@ -29,6 +29,13 @@ joined-cut [] [] e = refl
 joined-cut [] (w ∷ ws) e = absurd (omega arith)
 joined-cut (n ∷ ns) ws e = rw (joined-cut ns (drop n ws) (omega (arith, length-drop n ws))) (take-append-drop n ws)
 
+-- each run has its length
+pub run-length : (ns ws : List ℕ) → length ws ≡ total ns → (j : ℕ) → j < length ns → length (getD (cut ns ws) j []) ≡ getD ns j 0
+unfolding cut total
+run-length [] ws e j h = absurd (omega arith)
+run-length (n ∷ ns) ws e zero h = length-take-le n ws (omega arith)
+run-length (n ∷ ns) ws e (suc j) h = run-length ns (drop n ws) (omega (arith, length-drop n ws)) j (omega arith)
+
 head-back : (h : List ℕ) → length h ≡ 7 → getD h 0 0 ∷ getD h 1 0 ∷ getD h 2 0 ∷ getD h 3 0 ∷ getD h 4 0 ∷ getD h 5 0 ∷ getD h 6 0 ∷ [] ≡ h
 unfolding table
 head-back h e = sym (is-table 0 7 (λ i. getD h i 0) h e (λ i l. refl))
@@ -55,11 +62,10 @@ module _ (a : List ℕ) (e : length a ≡ 24) where
 
 module _ (ws : List ℕ) (e : length ws ≡ 719) where
   runs-back : runs (recordOf ws) ≡ cut runLengths ws
-  unfolding runs recordOf fromRuns cut runLengths column
+  unfolding runs recordOf fromRuns cut runLengths total column
   runs-back =
-      let first : length (take 7 ws) ≡ 7 = length-take-le 7 ws (omega arith) in
-      let second : length (take 24 (drop 7 ws)) ≡ 24 = length-take-le 24 (drop 7 ws) (omega (arith, length-drop 7 ws)) in
-      λ i. head-back (take 7 ws) first i ∷ agreed-back (take 24 (drop 7 ws)) second i ∷ drop 2 (cut runLengths ws)
+      let size = run-length runLengths ws e in
+      λ i. head-back (take 7 ws) (size 0 (omega arith)) i ∷ agreed-back (take 24 (drop 7 ws)) (size 1 (omega arith)) i ∷ drop 2 (cut runLengths ws)
 
   pub words-of-record : words (recordOf ws) ≡ ws
   unfolding words wordCount
