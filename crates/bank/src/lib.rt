@@ -8,6 +8,8 @@ ghost use Rattle.lists.specs.Pairs.{place};
 ghost use Rattle.order_rules.specs.Order.{only};
 ghost use Rattle.order.specs.Arrays.{turnsOf, Held};
 ghost use Rattle.order_rules.specs.Among.{among};
+ghost use Rattle.energy.specs.Limits.{mostCycle};
+ghost use Rattle.closing_rules.specs.Closing.{cycleEnds};
 ghost use Rattle.bank.specs.Arrays.{Creditable, creditOf, drawOf, lapseOf};
 use energy::Wh;
 
@@ -108,12 +110,21 @@ impl Bank {
         Draw { bank, drawn, left }
     }
 
+    // Whether the month that closes is the last of its cycle, of which so many months were gone before.
+    pub fn cycle_ends(gone: u64, cycle: u64) -> bool
+        requires { ⌜ gone ≤ mostCycle ⌝ }
+        ensures { λ r. ⌜ r ≡ cycleEnds gone cycle ⌝ }
+    {
+        gone + 1 == cycle
+    }
+
     // Step 4: at the end of a cycle nothing stays.
-    pub fn lapse(self, ends: bool) -> Lapse
-        ensures { λ r. ⌜ r ≡ lapseOf self ends ⌝ }
+    pub fn lapse(self, gone: u64, cycle: u64) -> Lapse
+        requires { ⌜ gone ≤ mostCycle ⌝ }
+        ensures { λ r. ⌜ r ≡ lapseOf self (cycleEnds gone cycle) ⌝ }
     {
         let none = [0u64; 8];
-        if ends {
+        if Bank::cycle_ends(gone, cycle) {
             let lapsed = self.balance;
             let bank = Bank { balance: none };
             return Lapse { bank, lapsed };

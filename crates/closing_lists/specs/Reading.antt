@@ -1,13 +1,13 @@
 -- What the steps of an accepted closing read of the bytes. Assumes nothing.
 use Prim.Native.Nat.{ℕ, _+_, _*_, _≤_, _<_}
 use mathlib.Core.Path.{_≡_, sym, ap, _∙_}
-use mathlib.Core.Bool.{Bool}
 use mathlib.Core.List.{List}
 use native.Mathlib.Omega.{arith}
 use lib.Dec.{eqb}
 use lib.ListN.{getD}
 use Rattle.lists.specs.Tables.{table}
 use Rattle.lists.specs.Pairs.{place}
+use Rattle.energy.specs.Limits.{mostCycle}
 use Rattle.order_rules.specs.Order.{only}
 use Rattle.order_rules.specs.Members.{Below, below-more}
 use Rattle.order.specs.Arrays.{turnsOf}
@@ -44,11 +44,14 @@ module _ (s : List ℕ) where
         open-is = outstanding ∙ ap (λ (x : Consumers). x .outstanding) (sym (consumers-at ws));
       }
 
-  pub gone-low : (size : ℕ) {gone : ℕ} → numberOn (closingRule size) (recordOf ws) ≡ 0 → gone ≡ getD ws 4 0 → gone ≤ 12
-  gone-low size z e = rw (e ∙ ap (λ (n : Counts). n .gone) (sym (counts-places ws))) (gone-few (recordOf ws) size z)
+  pub gone-read : {gone : ℕ} → gone ≡ getD ws 4 0 → gone ≡ recordOf ws .counts .gone
+  gone-read e = e ∙ ap (λ (n : Counts). n .gone) (sym (counts-places ws))
 
-  pub ends-so : {gone cycle : ℕ} {ends : Bool} → gone ≡ getD ws 4 0 → cycle ≡ getD ws 3 0 → ends ≡ eqb (gone + 1) cycle → ends ≡ eqb (recordOf ws .counts .gone + 1) (recordOf ws .terms .cycle)
-  ends-so gone cycle e = e ∙ rw (gone, cycle, terms-places ws, counts-places ws)
+  pub cycle-read : {cycle : ℕ} → cycle ≡ getD ws 3 0 → cycle ≡ recordOf ws .terms .cycle
+  cycle-read e = e ∙ ap (λ (t : Terms). t .cycle) (sym (terms-places ws))
+
+  pub gone-low : (size : ℕ) {gone : ℕ} → numberOn (closingRule size) (recordOf ws) ≡ 0 → gone ≡ getD ws 4 0 → gone ≤ mostCycle
+  gone-low size z e = rw (gone-read e) (gone-few (recordOf ws) size z)
 
 -- one consumer's links, read where they stand
 pub suppliers-are : (s : List ℕ) (c n : ℕ) (keys : List ℕ) {links : List ℕ} → c < 16 → turnsOf keys n ≡ order (planIn s) c → links ≡ table 8 (λ g. getD (decode 8 719 s) (31 + c + g * 16) 0) →

@@ -89,7 +89,7 @@ pub fn make(s: &[u8], out: &mut [u64])
     let drawing = draw_all(s, credit.bank, n, m, outstanding);
     let supplied = drawing.supplied;
     let drawn_on = drawing.bank;
-    let lapse = drawn_on.lapse(closing_counts::cycle_ends(gone, cycle));
+    let lapse = drawn_on.lapse(gone, cycle);
     let lapsed = lapse.lapsed;
     let after = lapse.bank;
     let balance = after.balance;

@@ -19,6 +19,10 @@ use Rattle.record.specs.declared.GeneratorTerms.{GeneratorTerms}
 use Rattle.record.specs.declared.ConsumerTerms.{ConsumerTerms}
 use Rattle.closing_rules.specs.Drawing.{stockAt, drawnAt, missingAt}
 
+-- Step 4, by the months of the cycle that were gone before: the month that closes is the last of its cycle.
+unfoldable pub cycleEnds : (gone cycle : ℕ) → Bool
+cycleEnds gone cycle = eqb (gone + 1) cycle
+
 module _ (b : Book) where
   -- Step 1: the month's pending is taken up, less a charge on it; what the bank held before is not charged again.
   unfoldable pub takenUp : ℕ → ℕ
@@ -43,7 +47,7 @@ module _ (b : Book) where
 
   -- Step 4: at the end of the cycle every bank lapses.
   unfoldable pub lapses : Bool
-  lapses = eqb (b .gone + 1) (b .cycle)
+  lapses = cycleEnds (b .gone) (b .cycle)
 
   unfoldable pub goneAfter : ℕ
   goneAfter = if lapses then 0 else b .gone + 1

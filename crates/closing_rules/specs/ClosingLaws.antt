@@ -19,7 +19,7 @@ use Rattle.record.specs.Book.{Book}
 use Rattle.record.specs.CalledLaws.{Keeps}
 use Rattle.record.specs.SoundLaws.{Facts, GeneratorFacts, ConsumerFacts}
 use Rattle.closing_rules.specs.DrawingLaws as Turns
-use Rattle.closing_rules.specs.Closing.{takenUp, charge, credited, banks, drawn, supplied, lapses, goneAfter, bankBeforeLapse, lapsed, bankAfter, generatorAfterClosing, consumerAfterClosing, afterClosing, closingLength, closingNumber, closingRefusal, closingRule}
+use Rattle.closing_rules.specs.Closing.{cycleEnds, takenUp, charge, credited, banks, drawn, supplied, lapses, goneAfter, bankBeforeLapse, lapsed, bankAfter, generatorAfterClosing, consumerAfterClosing, afterClosing, closingLength, closingNumber, closingRefusal, closingRule}
 
 module _ (b : Book) where
   -- pending - charge is exact
@@ -77,7 +77,7 @@ module _ (b : Book) where
   -- ---- soundness
 
   gone-less : Facts b → goneAfter b < b .cycle
-  unfolding goneAfter lapses
+  unfolding goneAfter lapses cycleEnds
   gone-less f = go (eqb (b .gone + 1) (b .cycle)) refl
     where
       go : (t : Bool) → eqb (b .gone + 1) (b .cycle) ≡ t → (if t then 0 else b .gone + 1) < b .cycle

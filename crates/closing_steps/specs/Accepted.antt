@@ -1,11 +1,10 @@
 -- What an accepted closing may rely on, and that its steps give the output of the rules. Assumes nothing.
 use Prim.Native.Nat.{ℕ, _+_, _*_, _≤_}
-use mathlib.Core.Path.{_≡_, refl, sym, ap, ap₂, _∙_}
-use mathlib.Core.Bool.{Bool}
+use mathlib.Core.Path.{_≡_, refl, sym, ap, _∙_}
 use mathlib.Core.List.{List}
 use native.Mathlib.Omega.{arith}
-use lib.Dec.{eqb}
 use lib.ListN.{length}
+use Rattle.energy.specs.Limits.{mostCycle}
 use Rattle.delivery_rules.specs.Plan.{suppliers}
 use Rattle.record.specs.Book.{noConsumption}
 use Rattle.record.specs.Stored.{generatorAt, consumerAt, planOf, figures}
@@ -16,7 +15,7 @@ use Rattle.record.specs.declared.ConsumerTerms.{ConsumerTerms}
 use Rattle.record.specs.declared.Record.{Record}
 use Rattle.bank.specs.Arrays.{Creditable, creditOf, drawingOf, lapseOf}
 use Rattle.bank.specs.DrawingSteps.{Drawable}
-use Rattle.closing_rules.specs.Closing.{closingOutput, closingLength, closingRule}
+use Rattle.closing_rules.specs.Closing.{cycleEnds, closingOutput, closingLength, closingRule}
 use Rattle.bank.specs.declared.Credit.{Credit}
 use Rattle.bank.specs.declared.Drawing.{Drawing}
 use Rattle.bank.specs.declared.Lapse.{Lapse}
@@ -36,7 +35,7 @@ module _ (r : Record) (size : ℕ) (z : numberOn (closingRule size) r ≡ 0) whe
   unfolding figures planOf
   consumers-few = facts .counts .C-high
 
-  pub gone-few : r .counts .gone ≤ 12
+  pub gone-few : r .counts .gone ≤ mostCycle
   unfolding figures
   gone-few = omega (arith, facts .counts .gone-high, facts .counts .cycle-high)
 
@@ -80,14 +79,14 @@ module _ (r : Record) (size : ℕ) (z : numberOn (closingRule size) r ≡ 0) {n 
       rw (x .generators, x .consumers) (record { size = e ∙ output-size r size z; rows = generators-few r size z; columns = consumers-few r size z })
 
   -- the lists that the steps give are the output of the rules
-  pub lists-are : {k : Credit} {d : Drawing} {ends : Bool} {l : Lapse} {out : List ℕ} →
-      k ≡ creditOf (record { balance = held }) pending rate → d ≡ drawingOf (suppliers (planOf r)) m (k .bank) outstanding → ends ≡ eqb (r .counts .gone + 1) (r .terms .cycle) →
-      l ≡ lapseOf (d .bank) ends → out ≡ sixLists (d .drawn) (k .charge) (l .lapsed) (l .bank .balance) outstanding (d .supplied) n m → out ≡ closingOutput (figures r)
+  pub lists-are : {k : Credit} {d : Drawing} {gone cycle : ℕ} {l : Lapse} {out : List ℕ} →
+      k ≡ creditOf (record { balance = held }) pending rate → d ≡ drawingOf (suppliers (planOf r)) m (k .bank) outstanding → gone ≡ r .counts .gone → cycle ≡ r .terms .cycle →
+      l ≡ lapseOf (d .bank) (cycleEnds gone cycle) → out ≡ sixLists (d .drawn) (k .charge) (l .lapsed) (l .bank .balance) outstanding (d .supplied) n m → out ≡ closingOutput (figures r)
   unfolding monthIn monthWritten
-  lists-are {k} {d} {ends} {l} credited drawn-on ended lapsed-so written =
+  lists-are {k} {d} {gone} {cycle} {l} credited drawn-on gone-is cycle-is lapsed-so written =
       let credit = rw (x .held-is, x .pending-is, x .rate-is) at credited in
       let drawing = (rw (x .consumers, x .open-is) at drawn-on) ∙ ap (λ (k : Credit). drawingOf (suppliers (planOf r)) (r .terms .consumers) (k .bank) (r .consumers .outstanding)) credit in
-      let lapse = lapsed-so ∙ ap₂ (λ (d : Drawing) (e : Bool). lapseOf (d .bank) e) drawing ended in
+      let lapse = (rw (gone-is, cycle-is) at lapsed-so) ∙ ap (λ (d : Drawing). lapseOf (d .bank) (cycleEnds (r .counts .gone) (r .terms .cycle))) drawing in
       let month : monthMade k d l ≡ monthIn r = λ i. monthMade (credit i) (drawing i) (lapse i) in
       written ∙ rw (x .open-is, x .generators, x .consumers)
       (ap (λ (y : Month). monthWritten y (r .consumers .outstanding) (r .terms .generators) (r .terms .consumers)) (month ∙ month-is r) ∙ output-is r (generators-few r size z) (consumers-few r size z))

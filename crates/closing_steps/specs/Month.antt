@@ -3,7 +3,6 @@ use Prim.Native.Nat.{ℕ, _+_, _≤_, _<_}
 use mathlib.Core.Path.{_≡_, ap, _∙_}
 use mathlib.Core.List.{List}
 use native.Mathlib.Omega.{arith}
-use lib.Dec.{eqb}
 use Rattle.lists.specs.Choice.{if_then_else_}
 use Rattle.lists.specs.Tables.{table, getD-table, table-same}
 use Rattle.lists.specs.Pairs.{place, pairs}
@@ -13,7 +12,7 @@ use Rattle.record.specs.Book.{Book}
 use Rattle.record.specs.Stored.{generatorAt, consumerAt, planOf, figures}
 use Rattle.record.specs.declared.Record.{Record}
 use Rattle.closing_rules.specs.Drawing.{stockAt, drawnAt, missingAt}
-use Rattle.closing_rules.specs.Closing.{takenUp, charge, credited, banks, drawn, supplied, lapses, bankBeforeLapse, lapsed, bankAfter}
+use Rattle.closing_rules.specs.Closing.{cycleEnds, takenUp, charge, credited, banks, drawn, supplied, lapses, bankBeforeLapse, lapsed, bankAfter}
 use Rattle.bank.specs.Arrays.{creditOf, drawingOf, lapseOf}
 use Rattle.bank.specs.declared.Credit.{Credit}
 use Rattle.bank.specs.declared.Drawing.{Drawing}
@@ -38,7 +37,7 @@ monthIn r =
     let t = r .terms in
     let credit = creditOf (record { balance = r .generators .bank }) (r .generators .pending) (t .rate) in
     let drawing = drawingOf (suppliers (planOf r)) (t .consumers) (credit .bank) (r .consumers .outstanding) in
-    monthMade credit drawing (lapseOf (drawing .bank) (eqb (r .counts .gone + 1) (t .cycle)))
+    monthMade credit drawing (lapseOf (drawing .bank) (cycleEnds (r .counts .gone) (t .cycle)))
 
 -- by the figures
 unfoldable pub monthOf : Book → Month
@@ -74,7 +73,7 @@ module _ (r : Record) where
   month-is =
       let serving = suppliers (planOf r) in
       let want = place 16 (r .consumers .outstanding) in
-      let ends = eqb (r .counts .gone + 1) (r .terms .cycle) in
+      let ends = cycleEnds (r .counts .gone) (r .terms .cycle) in
       λ i. record {
         charge = table 8 (charge b);
         drawn = pairs 8 16 (drawnAt serving (has-is i) want);

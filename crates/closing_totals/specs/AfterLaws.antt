@@ -10,7 +10,7 @@ use Rattle.lists.specs.Sums.{sum, sum-cong}
 use Rattle.lists.specs.Tables.{table, is-table}
 use Rattle.lists.specs.Pairs.{place}
 use Rattle.lists.specs.PairsLaws.{place-in}
-use Rattle.energy.specs.Limits.{mostFigure}
+use Rattle.energy.specs.Limits.{mostCycle, mostFigure}
 use Rattle.codec.specs.Bytes.{encode, decode}
 use Rattle.codec.specs.BytesLaws.{Below, length-decode}
 use Rattle.record.specs.Book.{Book}
@@ -175,7 +175,7 @@ module _ (s out : List ℕ) (f : Facts (bookIn s)) (is : out ≡ closingOutput (
 -- ---- what the call requires, and what it makes
 
 module _ {s out : List ℕ} (h : Listed s out) where
-  pub gone-few : getD (decode 8 719 s) 4 0 ≤ 12
+  pub gone-few : getD (decode 8 719 s) 4 0 ≤ mostCycle
   unfolding figures
   gone-few = omega (arith, ap (λ (x : Counts). x .gone) (counts-places (decode 8 719 s)), h .sound .counts .gone-high, h .sound .counts .cycle-high)
 

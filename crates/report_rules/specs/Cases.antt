@@ -17,7 +17,7 @@ use Rattle.agreement_rules.specs.Opening.{kindOf, installedOf, contractedOf, li
 use Rattle.agreement_rules.specs.Schedule.{newKw, newRank, scheduleRefusal, afterSchedule, scheduleRule}
 use Rattle.block_rules.specs.Block.{generatorAfterBlock, consumerAfterBlock, afterBlock, blockLength, entryOf, exitOf, blockNumber, blockRefusal, blockRule}
 use Rattle.closing_rules.specs.Drawing.{stockAt, drawnAt, missingAt}
-use Rattle.closing_rules.specs.Closing.{takenUp, charge, credited, banks, drawn, supplied, lapses, goneAfter, bankBeforeLapse, lapsed, bankAfter, generatorAfterClosing, consumerAfterClosing, afterClosing, closingLists, closingOutput, closingLength, closingNumber, closingRefusal, closingRule}
+use Rattle.closing_rules.specs.Closing.{takenUp, charge, credited, banks, drawn, supplied, cycleEnds, lapses, goneAfter, bankBeforeLapse, lapsed, bankAfter, generatorAfterClosing, consumerAfterClosing, afterClosing, closingLists, closingOutput, closingLength, closingNumber, closingRefusal, closingRule}
 use Rattle.unit.specs.Calls.{ruleOf, next, bookAfter, bookAnswers}
 use Rattle.unit.specs.AgreementA.{agreementA}
 use Rattle.table_text.specs.TableText.{digits, decimal, separatorAfter, printed, name, names, namesLine}
@@ -39,5 +39,5 @@ pub record Cases : Type 0 where
   pub other-names : display (bytes "E1,R2\n") ≡ bytes "refused 14\n"
 
 pub cases : Cases
-unfolding bytes tableNumber blocks calls firstRefused callNumber lastBook refusedText equationText accountText display digits decimal separatorAfter printed name names namesLine inRange same startsWithNames laterLines isDigit numbers values allFit wellFormed readNumber agreementA sum table all some within place cell pairs joined firstOf portionUp lossOn part span insert sort only ahead inOrder lower settle given kept unmet deemed scheduled order suppliers countedOf counted unaccounted partOf lossOf delivered atExit setOff afterSetOff underdrawn shortfall remainder blockLists blockOutput noInjection noConsumption kindOf installedOf contractedOf linkOf rateOfLoss sizesFit termsFit openingRefusal opened newKw newRank scheduleRefusal afterSchedule scheduleRule generatorAfterBlock consumerAfterBlock afterBlock blockLength entryOf exitOf blockNumber blockRefusal blockRule takenUp charge credited stockAt drawnAt missingAt banks drawn supplied lapses goneAfter bankBeforeLapse lapsed bankAfter generatorAfterClosing consumerAfterClosing afterClosing closingLists closingOutput closingLength closingNumber closingRefusal closingRule ruleOf next bookAfter bookAnswers
+unfolding bytes tableNumber blocks calls firstRefused callNumber lastBook refusedText equationText accountText display digits decimal separatorAfter printed name names namesLine inRange same startsWithNames laterLines isDigit numbers values allFit wellFormed readNumber agreementA sum table all some within place cell pairs joined firstOf portionUp lossOn part span insert sort only ahead inOrder lower settle given kept unmet deemed scheduled order suppliers countedOf counted unaccounted partOf lossOf delivered atExit setOff afterSetOff underdrawn shortfall remainder blockLists blockOutput noInjection noConsumption kindOf installedOf contractedOf linkOf rateOfLoss sizesFit termsFit openingRefusal opened newKw newRank scheduleRefusal afterSchedule scheduleRule generatorAfterBlock consumerAfterBlock afterBlock blockLength entryOf exitOf blockNumber blockRefusal blockRule takenUp charge credited stockAt drawnAt missingAt banks drawn supplied cycleEnds lapses goneAfter bankBeforeLapse lapsed bankAfter generatorAfterClosing consumerAfterClosing afterClosing closingLists closingOutput closingLength closingNumber closingRefusal closingRule ruleOf next bookAfter bookAnswers
 cases = record { example = refl; no-lines = refl; over-limit = refl; malformed = refl; other-names = refl }

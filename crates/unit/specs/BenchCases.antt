@@ -19,7 +19,7 @@ use Rattle.agreement_rules.specs.Opening.{Opening, kindOf, installedOf, contrac
 use Rattle.agreement_rules.specs.Schedule.{newKw, newRank, scheduleRefusal, afterSchedule, scheduleRule}
 use Rattle.block_rules.specs.Block.{generatorAfterBlock, consumerAfterBlock, afterBlock, blockLength, entryOf, exitOf, blockNumber, blockRefusal, blockRule}
 use Rattle.closing_rules.specs.Drawing.{stockAt, drawnAt, missingAt}
-use Rattle.closing_rules.specs.Closing.{takenUp, charge, credited, banks, drawn, supplied, lapses, goneAfter, bankBeforeLapse, lapsed, bankAfter, generatorAfterClosing, consumerAfterClosing, afterClosing, closingLists, closingOutput, closingLength, closingNumber, closingRefusal, closingRule}
+use Rattle.closing_rules.specs.Closing.{takenUp, charge, credited, banks, drawn, supplied, cycleEnds, lapses, goneAfter, bankBeforeLapse, lapsed, bankAfter, generatorAfterClosing, consumerAfterClosing, afterClosing, closingLists, closingOutput, closingLength, closingNumber, closingRefusal, closingRule}
 use Rattle.unit.specs.AgreementA.{agreementA, scheduleA}
 use Rattle.unit.specs.Calls.{Call, schedule, block, closing, ruleOf, next, bookAfter, BookAnswer, bookAnswers}
 
@@ -127,7 +127,7 @@ pub record BenchCases : Type 0 where
       []
 
 pub bench-cases : BenchCases
-unfolding agreementA oneConsumer oneScheduled twoScheduled wind slot50 sum table all some within place cell pairs joined firstOf portionUp lossOn part span insert sort only ahead inOrder lower settle given kept unmet deemed scheduled order suppliers countedOf counted unaccounted partOf lossOf delivered atExit setOff afterSetOff underdrawn shortfall remainder blockLists blockOutput noInjection noConsumption kindOf installedOf contractedOf linkOf rateOfLoss sizesFit termsFit openingRefusal opened newKw newRank scheduleRefusal afterSchedule scheduleRule generatorAfterBlock consumerAfterBlock afterBlock blockLength entryOf exitOf blockNumber blockRefusal blockRule takenUp charge credited stockAt drawnAt missingAt banks drawn supplied lapses goneAfter bankBeforeLapse lapsed bankAfter generatorAfterClosing consumerAfterClosing afterClosing closingLists closingOutput closingLength closingNumber closingRefusal closingRule ruleOf next bookAfter bookAnswers
+unfolding agreementA oneConsumer oneScheduled twoScheduled wind slot50 sum table all some within place cell pairs joined firstOf portionUp lossOn part span insert sort only ahead inOrder lower settle given kept unmet deemed scheduled order suppliers countedOf counted unaccounted partOf lossOf delivered atExit setOff afterSetOff underdrawn shortfall remainder blockLists blockOutput noInjection noConsumption kindOf installedOf contractedOf linkOf rateOfLoss sizesFit termsFit openingRefusal opened newKw newRank scheduleRefusal afterSchedule scheduleRule generatorAfterBlock consumerAfterBlock afterBlock blockLength entryOf exitOf blockNumber blockRefusal blockRule takenUp charge credited stockAt drawnAt missingAt banks drawn supplied cycleEnds lapses goneAfter bankBeforeLapse lapsed bankAfter generatorAfterClosing consumerAfterClosing afterClosing closingLists closingOutput closingLength closingNumber closingRefusal closingRule ruleOf next bookAfter bookAnswers
 bench-cases =
     record {
       all-opened = refl;

@@ -5,7 +5,7 @@ use borrow.Author.Needs.{needs}
 use Rattle.codec.specs.Bytes.{decode}
 use Rattle.record.specs.Words.{recordOf}
 use Rattle.closing_steps.specs.Accepted.{StepsRead, credit-ready, draw-ready, output-room, lists-are}
-use Rattle.closing_lists.specs.Reading.{steps-read, gone-low, ends-so}
+use Rattle.closing_lists.specs.Reading.{steps-read, gone-read, cycle-read, gone-low}
 use Rattle.closing_lists.proofs.make.Statement.{statement}
 use Rattle.closing_lists.proofs.make.Tie as tie
 
@@ -46,15 +46,12 @@ credit-requires c κs = credit-ready _ _ (start c .pre .1) (read c)
 draw-all-requires : tie.Need-draw-all-requires
 draw-all-requires c κs = let r = c .before .before in (start r .pre .0, draw-ready _ _ (start r .pre .1) (read r))
 
-cycle-ends-requires : tie.Need-cycle-ends-requires
-cycle-ends-requires c κs = let r = c .before .before .before .before .before in gone-low _ _ (start r .pre .1) (r .before .before .before .number-at5 .ensures)
-
 lapse-requires : tie.Need-lapse-requires
-lapse-requires c κs = search needs
+lapse-requires c κs = let r = c .before .before .before .before .before in gone-low _ _ (start r .pre .1) (r .before .before .before .number-at5 .ensures)
 
 write-lists-requires : tie.Need-write-lists-requires
 write-lists-requires c κs =
-    let r = c .before .before .before .before .before .before .before .before .before .before .before .before .before in
+    let r = c .before .before .before .before .before .before .before .before .before .before .before .before in
     output-room _ _ (start r .pre .1) (read r) refl
 
 same-length : tie.Need-same-length
@@ -63,12 +60,11 @@ same-length c = search needs
 returns : tie.Need-returns
 returns c =
     let lapsed = c .before .before .before .before .before .before .before .before .before in
-    let ended = lapsed .before in
-    let drew = ended .before .before .before in
+    let drew = lapsed .before .before .before in
     let credited = drew .before .before in
     let r = credited .before in
     lists-are _ _ (start r .pre .1) (read r) (credited .credit .ensures) (drew .draw-all .ensures)
-    (ends-so _ (r .before .before .before .number-at5 .ensures) (r .before .before .before .before .number-at4 .ensures) (ended .cycle-ends .ensures))
+    (gone-read _ (r .before .before .before .number-at5 .ensures)) (cycle-read _ (r .before .before .before .before .number-at4 .ensures))
     (lapsed .lapse .ensures) (c .before .before .write-lists .ensures)
 
 pub make-spec : {M : Type 1} → statement M
@@ -85,7 +81,6 @@ make-spec =
     load16-requires
     credit-requires
     draw-all-requires
-    cycle-ends-requires
     lapse-requires
     write-lists-requires
     same-length
