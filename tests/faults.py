@@ -125,7 +125,7 @@ FAULTS = {
     "closing: all consumers draw what the first lacks":
         ("closing_lists/src/lib.rt", "links, outstanding[c])", "links, outstanding[0])"),
     "closing: months gone not reset":
-        ("closing_counts/src/lib.rt", "{ 0 } else { gone + 1 }", "{ gone } else { gone + 1 }"),
+        ("closing_totals/src/lib.rt", "{ 0 } else { gone + 1 }", "{ gone } else { gone + 1 }"),
     # soundness
     "sound: month blocks over unit blocks allowed":
         ("sound_items/src/lib.rt", "(n.month <= n.blocks)", "(n.month <= n.month)"),

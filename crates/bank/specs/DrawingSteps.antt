@@ -7,8 +7,6 @@ use lib.ListN.{length, set, replicate}
 use Rattle.lists.specs.Tables.{table, Filling, fill-start, fill-step, fill-rest}
 use Rattle.lists.specs.Pairs.{place}
 use Rattle.order_rules.specs.Members.{Below}
-use Rattle.delivery_rules.specs.Plan.{Plan}
-use Rattle.delivery_rules.specs.Orderable.{Orderable}
 use Rattle.closing_rules.specs.Drawing.{stockAt, drawnAt, missingAt}
 use Rattle.closing_rules.specs.DrawingLaws.{nothing-drawn, nothing-missing}
 use Rattle.bank.specs.declared.Bank.{Bank}
@@ -18,14 +16,6 @@ use Rattle.bank.specs.Arrays.{drawOf, drawingOf}
 use Rattle.bank.specs.BankLaws.{balances, drawn-by-rule}
 use Rattle.columns.specs.Columns.{ColumnPut, Columns}
 use Rattle.columns.specs.ColumnsLaws.{columns-start, columns-step, columns-pairs}
-
--- what a sound record gives to n generators and m consumers: an order, and nobody beyond who wants anything
-pub record Drawable (p : Plan) (n m : ℕ) (outstanding : List ℕ) : Type 0 where
-  pub G-is : n ≡ p .G
-  pub G-high : n ≤ 8
-  pub C-high : m ≤ 16
-  pub orderable : Orderable p
-  pub beyond : (c : ℕ) → m ≤ c → place 16 outstanding c ≡ 0
 
 module _ (serving : ℕ → List ℕ) (has want : ℕ → ℕ) where
   -- The invariant of the loop over the consumers: the first c of them have drawn.

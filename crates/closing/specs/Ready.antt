@@ -10,7 +10,7 @@ use Rattle.record.specs.Called.{numberOn}
 use Rattle.layout_rules.specs.OnBytes.{recordIn, CalledOn, bookIn}
 use Rattle.layout_rules.specs.OnBytesLaws.{on-accepted, on-refused}
 use Rattle.closing_rules.specs.Closing.{afterClosing, closingOutput, closingRule}
-use Rattle.closing_steps.specs.Accepted.{facts}
+use Rattle.closing_rules.specs.ClosingRefusals.{facts}
 use Rattle.closing_totals.specs.Totals.{Listed}
 
 pub listed : (s : List ℕ) (size : ℕ) {out : List ℕ} → length s ≡ 5752 → numberOn (closingRule size) (recordOf (decode 8 719 s)) ≡ 0 → out ≡ closingOutput (bookIn s) → Listed s out

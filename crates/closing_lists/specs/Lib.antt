@@ -1,1 +1,5 @@
+pub mod Drawable
+pub mod Month
+pub mod Output
+pub mod Accepted
 pub mod Reading

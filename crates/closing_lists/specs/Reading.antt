@@ -25,7 +25,8 @@ use Rattle.layout_rules.specs.Places.{terms-places, counts-places}
 use Rattle.layout_rules.specs.OnBytes.{planIn}
 use Rattle.layout_rules.specs.Columns.{link-column}
 use Rattle.closing_rules.specs.Closing.{closingRule}
-use Rattle.closing_steps.specs.Accepted.{StepsRead, gone-few}
+use Rattle.closing_rules.specs.ClosingRefusals.{gone-few}
+use Rattle.closing_lists.specs.Accepted.{StepsRead}
 
 module _ (s : List ℕ) where
   abbrev ws : List ℕ

@@ -8,9 +8,9 @@ ghost use Rattle.record.specs.Called.{numberOn};
 ghost use Rattle.record.specs.Words.{recordOf};
 ghost use Rattle.layout_rules.specs.OnBytes.{planIn, bookIn};
 ghost use Rattle.bank.specs.Arrays.{drawingOf};
-ghost use Rattle.bank.specs.DrawingSteps.{Drawable};
+ghost use Rattle.closing_lists.specs.Drawable.{Drawable};
 ghost use Rattle.closing_rules.specs.Closing.{closingOutput, closingRule};
-ghost use Rattle.closing_steps.specs.Output.{OutputRoom, sixLists};
+ghost use Rattle.closing_lists.specs.Output.{OutputRoom, sixLists};
 use bank::Bank;
 use bank::Drawing;
 

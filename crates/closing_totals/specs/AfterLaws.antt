@@ -30,10 +30,9 @@ use Rattle.layout_rules.specs.OnBytes.{bookIn}
 use Rattle.raising.specs.Raise.{rowSum, columnSum, Raisable}
 use Rattle.closing_rules.specs.Closing.{charge, drawn, supplied, goneAfter, lapsed, bankAfter, generatorAfterClosing, consumerAfterClosing, afterClosing, closingLength, closingOutput}
 use Rattle.closing_rules.specs.ClosingOutput.{closing-length, drawn-at, charge-at, lapsed-at, bank-at, supplied-at}
-use Rattle.closing_steps.specs.Beyond.{bank-beyond, pending-beyond, charge-beyond, given-beyond, lapsed-beyond, bank-after-beyond, open-beyond, taken-beyond, supplied-beyond}
-use Rattle.closing_steps.specs.RoomLaws.{closing-output-moderate}
-use Rattle.closing_counts.specs.Counts.{countsAfter}
-use Rattle.closing_totals.specs.Totals.{totalsRaised, stocksReplaced, ClosingLists, Listed}
+use Rattle.closing_rules.specs.ClosingBeyond.{bank-beyond, pending-beyond, charge-beyond, given-beyond, lapsed-beyond, bank-after-beyond, open-beyond, taken-beyond, supplied-beyond}
+use Rattle.closing_rules.specs.ClosingRoom.{closing-output-moderate}
+use Rattle.closing_totals.specs.Totals.{countsAfter, totalsRaised, stocksReplaced, ClosingLists, Listed}
 
 -- the first seven numbers, with other months gone and no block in the month
 counted : (xs : List ℕ) (gone : ℕ) → length xs ≡ 7 →

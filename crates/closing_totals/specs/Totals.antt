@@ -2,13 +2,19 @@
 use Prim.Native.Nat.{ℕ, _+_, _*_}
 use mathlib.Core.Path.{_≡_}
 use mathlib.Core.List.{List}
-use lib.ListN.{length, getD}
+use lib.ListN.{length, getD, set}
+use Rattle.record.specs.Stored.{figures}
 use Rattle.record.specs.SoundLaws.{Facts}
+use Rattle.record.specs.Words.{recordOf}
 use Rattle.layout_rules.specs.OnBytes.{bookIn}
 use Rattle.layout_rules.specs.Raised.{raised, from}
 use Rattle.layout_rules.specs.Replaced.{replaced}
 use Rattle.raising.specs.Raise.{rowSum, columnSum, OutputLists}
-use Rattle.closing_rules.specs.Closing.{closingOutput}
+use Rattle.closing_rules.specs.Closing.{goneAfter, closingOutput}
+
+-- the months gone, and no block in the month
+unfoldable pub countsAfter : List ℕ → List ℕ
+countsAfter ws = set (set ws 4 (goneAfter (figures (recordOf ws)))) 6 0
 
 -- for n generators and m consumers, by the output: drawn pairs; charge, lapsed and bank by generator; open and supplied by consumer
 module _ (n m : ℕ) (out ws : List ℕ) where

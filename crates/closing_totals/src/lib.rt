@@ -1,15 +1,38 @@
-// A closing's totals: the record after it is made where it stands in the bytes, from the closing's lists.
+// A closing's totals and the start of the next month: the record after it is made where it stands in the bytes, from the closing's lists.
 // Called by this repository's crates only: what a function requires, its callers meet.
 ghost use mathlib.Core.Path.{_≡_};
-ghost use lib.ListN.{length};
-ghost use Rattle.energy.specs.Limits.{mostFigure};
+ghost use Prim.Native.Nat.{_+_, _≤_};
+ghost use lib.ListN.{length, getD};
+ghost use Rattle.lists.specs.Choice.{if_then_else_};
+ghost use Rattle.energy.specs.Limits.{mostCycle, mostFigure};
 ghost use Rattle.codec.specs.Bytes.{encode, decode};
 ghost use Rattle.record.specs.Stored.{stored};
 ghost use Rattle.record.specs.Words.{words};
 ghost use Rattle.layout_rules.specs.OnBytes.{bookIn};
 ghost use Rattle.raising.specs.Raise.{Raisable};
-ghost use Rattle.closing_rules.specs.Closing.{afterClosing};
-ghost use Rattle.closing_totals.specs.Totals.{totalsRaised, stocksReplaced, ClosingLists, Listed};
+ghost use Rattle.closing_rules.specs.Closing.{cycleEnds, afterClosing};
+ghost use Rattle.closing_totals.specs.Totals.{countsAfter, totalsRaised, stocksReplaced, ClosingLists, Listed};
+use bank::Bank;
+
+// Months gone after the closing; a new cycle starts at 0.
+fn months_gone(gone: u64, cycle: u64) -> u64
+    requires { ⌜ gone ≤ mostCycle ⌝ }
+    ensures { λ r. ⌜ r ≡ (if cycleEnds gone cycle then 0 else gone + 1) ⌝ }
+{
+    let ends = Bank::cycle_ends(gone, cycle);
+    if ends { 0 } else { gone + 1 }
+}
+
+// The next month, which has no block yet.
+fn start_month(s: &mut [u8])
+    requires { ⌜ (length (now s) ≡ 5752) × (getD (decode 8 719 (now s)) 4 0 ≤ mostCycle) ⌝ }
+    ensures { λ _. ⌜ decode 8 719 (now (s .exit)) ≡ countsAfter (decode 8 719 (now (s .entry))) ⌝ }
+{
+    let before = in_place::number_at(s, layout_rules::GONE);
+    let gone = months_gone(before, in_place::number_at(s, layout_rules::CYCLE));
+    in_place::put_at(s, layout_rules::GONE, gone);
+    in_place::put_at(s, layout_rules::MONTH, 0);
+}
 
 fn raise_totals(s: &mut [u8], out: &[u64], n: usize, m: usize)
     requires { ⌜ Raisable 583 136 mostFigure (now s) × ClosingLists n m (now out) ⌝ }
@@ -41,7 +64,7 @@ pub fn enter(s: &mut [u8], out: &[u64])
 {
     let n = in_place::number_at(s, layout_rules::GENERATOR_COUNT) as usize;
     let m = in_place::number_at(s, layout_rules::CONSUMER_COUNT) as usize;
-    closing_counts::start_month(s);
+    start_month(s);
     raise_totals(s, out, n, m);
     replace_stocks(s, out, n, m);
 }

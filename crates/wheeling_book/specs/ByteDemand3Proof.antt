@@ -28,7 +28,7 @@ use Rattle.agreement_rules.specs.Schedule.{scheduleRule}
 use Rattle.block_rules.specs.Block.{blockRule}
 use Rattle.block_rules.specs.Accepted.{block-output-moderate}
 use Rattle.closing_rules.specs.Closing.{closingRule}
-use Rattle.closing_steps.specs.RoomLaws.{closing-output-moderate}
+use Rattle.closing_rules.specs.ClosingRoom.{closing-output-moderate}
 use Rattle.unit.specs.Calls.{Call, schedule, block, closing, ruleOf, next, bookAfter, bookAnswers}
 use Rattle.unit.specs.Trace.{Ask, callOf, Given, Done, Trace, trace-none, trace-one, lastRecord}
 use Rattle.unit.specs.Demand3Proof.{Kept, next-kept, opened-kept, demand-3}

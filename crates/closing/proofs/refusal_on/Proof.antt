@@ -7,7 +7,7 @@ use Rattle.record.specs.CalledLaws.{number-unsound, terms-few}
 use Rattle.record.specs.Sound.{sound}
 use Rattle.record.specs.Stored.{figures}
 use Rattle.record.specs.Words.{recordOf}
-use Rattle.closing_steps.specs.Refusals.{record-refusal}
+use Rattle.closing_rules.specs.ClosingRefusals.{record-refusal}
 use Rattle.closing.proofs.refusal_on.Statement.{statement}
 use Rattle.closing.proofs.refusal_on.Tie as tie
 

@@ -4,7 +4,7 @@ use native.Mathlib.Omega.{arith}
 use borrow.Author.Needs.{needs}
 use Rattle.codec.specs.Bytes.{decode}
 use Rattle.record.specs.Words.{recordOf}
-use Rattle.closing_steps.specs.Accepted.{StepsRead, credit-ready, draw-ready, output-room, lists-are}
+use Rattle.closing_lists.specs.Accepted.{StepsRead, credit-ready, draw-ready, output-room, lists-are}
 use Rattle.closing_lists.specs.Reading.{steps-read, gone-read, cycle-read, gone-low}
 use Rattle.closing_lists.proofs.make.Statement.{statement}
 use Rattle.closing_lists.proofs.make.Tie as tie

@@ -4,7 +4,7 @@ use mathlib.Core.Path.{_≡_, refl, sym, _∙_}
 use native.Mathlib.Nat.{zero-add}
 use native.Mathlib.Omega.{arith}
 use Rattle.arrays.specs.Written.{written-none, written-put, written-all}
-use Rattle.closing_steps.specs.Output.{sixLists}
+use Rattle.closing_lists.specs.Output.{sixLists}
 use borrow.Author.Needs.{needs}
 use Rattle.closing_lists.proofs.write_lists.Statement.{statement}
 use Rattle.closing_lists.proofs.write_lists.Tie as tie

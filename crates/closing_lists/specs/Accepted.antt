@@ -1,61 +1,43 @@
 -- What an accepted closing may rely on, and that its steps give the output of the rules. Assumes nothing.
-use Prim.Native.Nat.{ℕ, _+_, _*_, _≤_}
-use mathlib.Core.Path.{_≡_, refl, sym, ap, _∙_}
+use Prim.Native.Nat.{ℕ}
+use mathlib.Core.Path.{_≡_, refl, ap, _∙_}
 use mathlib.Core.List.{List}
 use native.Mathlib.Omega.{arith}
 use lib.ListN.{length}
-use Rattle.energy.specs.Limits.{mostCycle}
 use Rattle.delivery_rules.specs.Plan.{suppliers}
 use Rattle.record.specs.Book.{noConsumption}
 use Rattle.record.specs.Stored.{generatorAt, consumerAt, planOf, figures}
-use Rattle.record.specs.SoundLaws.{Facts, orderable, injected-most, con-beyond}
+use Rattle.record.specs.SoundLaws.{orderable, injected-most, con-beyond}
 use Rattle.record.specs.Called.{numberOn}
-use Rattle.record.specs.CalledLaws.{accepted-sound, number-sound, record-facts}
 use Rattle.record.specs.declared.ConsumerTerms.{ConsumerTerms}
 use Rattle.record.specs.declared.Record.{Record}
 use Rattle.bank.specs.Arrays.{Creditable, creditOf, drawingOf, lapseOf}
-use Rattle.bank.specs.DrawingSteps.{Drawable}
-use Rattle.closing_rules.specs.Closing.{cycleEnds, closingOutput, closingLength, closingRule}
+use Rattle.closing_lists.specs.Drawable.{Drawable}
+use Rattle.closing_rules.specs.Closing.{cycleEnds, closingOutput, closingRule}
 use Rattle.bank.specs.declared.Credit.{Credit}
 use Rattle.bank.specs.declared.Drawing.{Drawing}
 use Rattle.bank.specs.declared.Lapse.{Lapse}
-use Rattle.closing_steps.specs.Refusals.{accepted-size}
-use Rattle.closing_steps.specs.Month.{Month, monthMade, monthIn, month-is}
-use Rattle.closing_steps.specs.Output.{OutputRoom, sixLists, monthWritten, output-is}
+use Rattle.closing_rules.specs.ClosingRefusals.{facts, generators-few, consumers-few, output-size}
+use Rattle.closing_lists.specs.Month.{Month, monthMade, monthIn, month-is}
+use Rattle.closing_lists.specs.Output.{OutputRoom, sixLists, monthWritten, output-is}
 
 module _ (r : Record) (size : ℕ) (z : numberOn (closingRule size) r ≡ 0) where
-  pub facts : Facts (figures r)
-  facts = record-facts r (accepted-sound (closingRule size) r z)
-
-  pub generators-few : r .terms .generators ≤ 8
-  unfolding figures planOf
-  generators-few = facts .counts .G-high
-
-  pub consumers-few : r .terms .consumers ≤ 16
-  unfolding figures planOf
-  consumers-few = facts .counts .C-high
-
-  pub gone-few : r .counts .gone ≤ mostCycle
-  unfolding figures
-  gone-few = omega (arith, facts .counts .gone-high, facts .counts .cycle-high)
-
-  pub output-size : size ≡ r .terms .generators * r .terms .consumers + 3 * r .terms .generators + 2 * r .terms .consumers
-  unfolding figures planOf closingLength closingRule
-  output-size = accepted-size (figures r) size (sym (number-sound (closingRule size) r (accepted-sound (closingRule size) r z)) ∙ z)
-
   pub creditable : Creditable (record { balance = r .generators .bank }) (r .generators .pending) (r .terms .rate)
   unfolding figures generatorAt
-  creditable = record { moderate = λ g l. omega (arith, facts .gen g .equation, injected-most (figures r) facts g); rate-high = facts .counts .rate-high }
+  creditable =
+      let f = facts r size z in
+      record { moderate = λ g l. omega (arith, f .gen g .equation, injected-most (figures r) f g); rate-high = f .counts .rate-high }
 
   pub drawable : Drawable (planOf r) (r .terms .generators) (r .terms .consumers) (r .consumers .outstanding)
   unfolding figures planOf consumerAt noConsumption
   drawable =
+      let f = facts r size z in
       record {
         G-is = refl;
-        G-high = generators-few;
-        C-high = consumers-few;
-        orderable = orderable (figures r) facts;
-        beyond = λ c h. ap (λ (x : ConsumerTerms). x .outstanding) (con-beyond (figures r) facts c h);
+        G-high = generators-few r size z;
+        C-high = consumers-few r size z;
+        orderable = orderable (figures r) f;
+        beyond = λ c h. ap (λ (x : ConsumerTerms). x .outstanding) (con-beyond (figures r) f c h);
       }
 
 -- what the steps read of a record

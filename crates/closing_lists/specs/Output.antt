@@ -11,7 +11,7 @@ use Rattle.arrays.specs.Written.{pairs-same, list-places, list-table}
 use Rattle.record.specs.Stored.{consumerAt, planOf, figures}
 use Rattle.record.specs.declared.Record.{Record}
 use Rattle.closing_rules.specs.Closing.{charge, drawn, supplied, lapsed, bankAfter, closingLists, closingOutput}
-use Rattle.closing_steps.specs.Month.{Month, monthOf}
+use Rattle.closing_lists.specs.Month.{Month, monthOf}
 
 -- the slice has the stated length
 pub record OutputRoom (o : List ℕ) (n m : ℕ) : Type 0 where

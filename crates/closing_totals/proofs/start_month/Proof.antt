@@ -1,10 +1,10 @@
--- `closing_counts::start_month` meets its contract: two counts are written. Assumes nothing.
+-- `closing_totals::start_month` meets its contract: two counts are written. Assumes nothing.
 use mathlib.Core.Path.{_∙_}
 use borrow.Author.Needs.{needs}
-use Rattle.closing_counts.specs.Counts.{countsAfter}
-use Rattle.closing_counts.specs.CountsLaws.{gone-read}
-use Rattle.closing_counts.proofs.start_month.Statement.{statement}
-use Rattle.closing_counts.proofs.start_month.Tie as tie
+use Rattle.closing_totals.specs.Totals.{countsAfter}
+use Rattle.closing_totals.specs.TotalsLaws.{gone-read}
+use Rattle.closing_totals.proofs.start_month.Statement.{statement}
+use Rattle.closing_totals.proofs.start_month.Tie as tie
 
 number-at-requires : tie.Need-number-at-requires
 number-at-requires c κs = search needs

@@ -1,8 +1,8 @@
--- `closing_counts::months_gone` meets its contract: they start again at the end of a cycle. Assumes nothing.
+-- `closing_totals::months_gone` meets its contract: they start again at the end of a cycle. Assumes nothing.
 use mathlib.Core.Path.{_∙_, sym}
 use borrow.Author.Needs.{needs}
-use Rattle.closing_counts.proofs.months_gone.Statement.{statement}
-use Rattle.closing_counts.proofs.months_gone.Tie as tie
+use Rattle.closing_totals.proofs.months_gone.Statement.{statement}
+use Rattle.closing_totals.proofs.months_gone.Tie as tie
 
 cycle-ends-requires : tie.Need-cycle-ends-requires
 cycle-ends-requires c κs = search needs
