@@ -7,14 +7,18 @@ use Rattle.codec.specs.Bytes.{encode, decode}
 use Rattle.record.specs.Words.{words, recordOf}
 use Rattle.record.specs.Stored.{stored}
 use Rattle.record.specs.Called.{numberOn}
+use Rattle.record.specs.declared.Terms.{Terms}
+use Rattle.record.specs.declared.Counts.{Counts}
+use Rattle.layout_rules.specs.Head.{HeadRead}
 use Rattle.layout_rules.specs.OnBytes.{recordIn, CalledOn, bookIn}
 use Rattle.layout_rules.specs.OnBytesLaws.{on-accepted, on-refused}
 use Rattle.closing_rules.specs.Closing.{afterClosing, closingOutput, closingRule}
 use Rattle.closing_rules.specs.ClosingRefusals.{facts}
 use Rattle.closing_totals.specs.Totals.{Listed}
 
-pub listed : (s : List ℕ) (size : ℕ) {out : List ℕ} → length s ≡ 5752 → numberOn (closingRule size) (recordOf (decode 8 719 s)) ≡ 0 → out ≡ closingOutput (bookIn s) → Listed s out
-listed s size whole z e = record { size = whole; sound = facts (recordOf (decode 8 719 s)) size z; output = e }
+pub listed : (s : List ℕ) (size : ℕ) {terms : Terms} {counts : Counts} {out : List ℕ} →
+    HeadRead s terms counts → numberOn (closingRule size) (recordOf (decode 8 719 s)) ≡ 0 → out ≡ closingOutput (bookIn s) → Listed s terms counts out
+listed s size head z e = record { head = head; sound = facts (recordOf (decode 8 719 s)) size z; output = e }
 
 module _ (s lent : List ℕ) where
   pub closing-accepted : {s′ out : List ℕ} → numberOn (closingRule (length lent)) (recordOf (decode 8 719 s)) ≡ 0 →

@@ -37,8 +37,8 @@ pub fn close_on(s: &mut [u8], out: &mut [u64]) -> u32
     let counts = loading::load_counts(s);
     let number = refusal_on(s, terms, counts, out.len());
     if number == 0 {
-        closing_lists::make(s, out);
-        closing_totals::enter(s, out);
+        closing_lists::make(s, terms, counts, out);
+        closing_totals::enter(s, terms, counts, out);
         return 0;
     }
     number

@@ -7,7 +7,6 @@ use lib.Dec.{eqb}
 use lib.ListN.{getD}
 use Rattle.lists.specs.Tables.{table}
 use Rattle.lists.specs.Pairs.{place}
-use Rattle.energy.specs.Limits.{mostCycle}
 use Rattle.order_rules.specs.Order.{only}
 use Rattle.order_rules.specs.Members.{Below, below-more}
 use Rattle.order.specs.Arrays.{turnsOf}
@@ -15,44 +14,28 @@ use Rattle.delivery_rules.specs.Plan.{order, suppliers}
 use Rattle.delivery_rules.specs.DeliveryLaws.{suppliers-within}
 use Rattle.codec.specs.Bytes.{decode}
 use Rattle.record.specs.Words.{recordOf}
-use Rattle.record.specs.Called.{numberOn}
 use Rattle.record.specs.declared.Terms.{Terms}
 use Rattle.record.specs.declared.Counts.{Counts}
 use Rattle.record.specs.declared.Generators.{Generators}
 use Rattle.record.specs.declared.Consumers.{Consumers}
 use Rattle.layout_rules.specs.Layout.{run, generators-at, consumers-at}
-use Rattle.layout_rules.specs.Places.{terms-places, counts-places}
+use Rattle.layout_rules.specs.Head.{HeadRead}
 use Rattle.layout_rules.specs.OnBytes.{planIn}
 use Rattle.layout_rules.specs.Columns.{link-column}
-use Rattle.closing_rules.specs.Closing.{closingRule}
-use Rattle.closing_rules.specs.ClosingRefusals.{gone-few}
 use Rattle.closing_lists.specs.Accepted.{StepsRead}
 
-module _ (s : List ℕ) where
-  abbrev ws : List ℕ
-  ws = decode 8 719 s
-
-  pub steps-read : {n m rate : ℕ} {held pending outstanding : List ℕ} → n ≡ getD ws 0 0 → m ≡ getD ws 1 0 → rate ≡ getD ws 2 0 →
-      held ≡ run ws 8 607 → pending ≡ run ws 8 615 → outstanding ≡ run ws 16 703 → StepsRead (recordOf ws) n m rate held pending outstanding
-  steps-read n m rate held pending outstanding =
-      let terms = sym (terms-places ws) in
-      record {
-        generators = n ∙ ap (λ (t : Terms). t .generators) terms;
-        consumers = m ∙ ap (λ (t : Terms). t .consumers) terms;
-        rate-is = rate ∙ ap (λ (t : Terms). t .rate) terms;
-        held-is = held ∙ ap (λ (x : Generators). x .bank) (sym (generators-at ws));
-        pending-is = pending ∙ ap (λ (x : Generators). x .pending) (sym (generators-at ws));
-        open-is = outstanding ∙ ap (λ (x : Consumers). x .outstanding) (sym (consumers-at ws));
-      }
-
-  pub gone-read : {gone : ℕ} → gone ≡ getD ws 4 0 → gone ≡ recordOf ws .counts .gone
-  gone-read e = e ∙ ap (λ (n : Counts). n .gone) (sym (counts-places ws))
-
-  pub cycle-read : {cycle : ℕ} → cycle ≡ getD ws 3 0 → cycle ≡ recordOf ws .terms .cycle
-  cycle-read e = e ∙ ap (λ (t : Terms). t .cycle) (sym (terms-places ws))
-
-  pub gone-low : (size : ℕ) {gone : ℕ} → numberOn (closingRule size) (recordOf ws) ≡ 0 → gone ≡ getD ws 4 0 → gone ≤ mostCycle
-  gone-low size z e = rw (gone-read e) (gone-few (recordOf ws) size z)
+pub steps-read : (s : List ℕ) {terms : Terms} {counts : Counts} {held pending outstanding : List ℕ} → HeadRead s terms counts →
+    held ≡ run (decode 8 719 s) 8 607 → pending ≡ run (decode 8 719 s) 8 615 → outstanding ≡ run (decode 8 719 s) 16 703 →
+    StepsRead (recordOf (decode 8 719 s)) terms counts held pending outstanding
+steps-read s head held pending outstanding =
+    let ws = decode 8 719 s in
+    record {
+      terms-are = head .terms-are;
+      counts-are = head .counts-are;
+      held-is = held ∙ ap (λ (x : Generators). x .bank) (sym (generators-at ws));
+      pending-is = pending ∙ ap (λ (x : Generators). x .pending) (sym (generators-at ws));
+      open-is = outstanding ∙ ap (λ (x : Consumers). x .outstanding) (sym (consumers-at ws));
+    }
 
 -- one consumer's links, read where they stand
 pub suppliers-are : (s : List ℕ) (c n : ℕ) (keys : List ℕ) {links : List ℕ} → c < 16 → turnsOf keys n ≡ order (planIn s) c → links ≡ table 8 (λ g. getD (decode 8 719 s) (31 + c + g * 16) 0) →

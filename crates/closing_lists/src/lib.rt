@@ -7,12 +7,15 @@ ghost use Rattle.delivery_rules.specs.Plan.{suppliers};
 ghost use Rattle.record.specs.Called.{numberOn};
 ghost use Rattle.record.specs.Words.{recordOf};
 ghost use Rattle.layout_rules.specs.OnBytes.{planIn, bookIn};
+ghost use Rattle.layout_rules.specs.Head.{HeadRead};
 ghost use Rattle.bank.specs.Arrays.{drawingOf};
 ghost use Rattle.closing_lists.specs.Drawable.{Drawable};
 ghost use Rattle.closing_rules.specs.Closing.{closingOutput, closingRule};
 ghost use Rattle.closing_lists.specs.Output.{OutputRoom, sixLists};
 use bank::Bank;
 use bank::Drawing;
+use record::Counts;
+use record::Terms;
 
 // Steps 2 and 3: consumers 1 to m draw one after the other, each by its order and links where they stand in the record's bytes. The columns
 // and places from m on stay the zeros that they are made with.
@@ -71,25 +74,22 @@ fn write_lists(
 }
 
 // Steps 1 to 4 on what the record holds for them, and their lists into the slice.
-pub fn make(s: &[u8], out: &mut [u64])
-    requires { ⌜ (length (now s) ≡ 5752) × (numberOn (closingRule (length (now out))) (recordOf (decode 8 719 (now s))) ≡ 0) ⌝ }
+pub fn make(s: &[u8], terms: Terms, counts: Counts, out: &mut [u64])
+    requires { ⌜ HeadRead (now s) terms counts × (numberOn (closingRule (length (now out))) (recordOf (decode 8 719 (now s))) ≡ 0) ⌝ }
     ensures { λ _. ⌜ now (out .exit) ≡ closingOutput (bookIn (now (s .entry))) ⌝ }
 {
-    let n = in_place::number_at(s, layout_rules::GENERATOR_COUNT) as usize;
-    let m = in_place::number_at(s, layout_rules::CONSUMER_COUNT) as usize;
-    let rate = in_place::number_at(s, layout_rules::RATE);
-    let cycle = in_place::number_at(s, layout_rules::CYCLE);
-    let gone = in_place::number_at(s, layout_rules::GONE);
+    let n = terms.generators as usize;
+    let m = terms.consumers as usize;
     let held = loading::load8(s, layout_rules::BANK);
     let pending = loading::load8(s, layout_rules::PENDING);
     let outstanding = loading::load16(s, layout_rules::OUTSTANDING);
     let before = Bank { balance: held };
-    let credit = before.credit(pending, rate);
+    let credit = before.credit(pending, terms.rate);
     let charge = credit.charge;
     let drawing = draw_all(s, credit.bank, n, m, outstanding);
     let supplied = drawing.supplied;
     let drawn_on = drawing.bank;
-    let lapse = drawn_on.lapse(gone, cycle);
+    let lapse = drawn_on.lapse(counts.gone, terms.cycle);
     let lapsed = lapse.lapsed;
     let after = lapse.bank;
     let balance = after.balance;

@@ -24,7 +24,6 @@ use Rattle.record.specs.declared.Counts.{Counts}
 use Rattle.layout_rules.specs.Raised.{set-run, list-raised}
 use Rattle.layout_rules.specs.Replaced.{list-replaced}
 use Rattle.layout_rules.specs.LayoutLaws.{bytes-of-record}
-use Rattle.layout_rules.specs.Places.{terms-places, counts-places}
 use Rattle.layout_rules.specs.Kept.{record-shape, read-kept, numbers-low}
 use Rattle.layout_rules.specs.OnBytes.{bookIn}
 use Rattle.raising.specs.Raise.{rowSum, columnSum, Raisable}
@@ -173,10 +172,16 @@ module _ (s out : List ℕ) (f : Facts (bookIn s)) (is : out ≡ closingOutput (
 
 -- ---- what the call requires, and what it makes
 
-module _ {s out : List ℕ} (h : Listed s out) where
-  pub gone-few : getD (decode 8 719 s) 4 0 ≤ mostCycle
+module _ {s out : List ℕ} {terms : Terms} {counts : Counts} (h : Listed s terms counts out) where
+  abbrev n : ℕ
+  n = terms .generators
+
+  abbrev m : ℕ
+  m = terms .consumers
+
+  pub gone-few : counts .gone ≤ mostCycle
   unfolding figures
-  gone-few = omega (arith, ap (λ (x : Counts). x .gone) (counts-places (decode 8 719 s)), h .sound .counts .gone-high, h .sound .counts .cycle-high)
+  gone-few = rw (h .head .counts-are) (omega (arith, h .sound .counts .gone-high, h .sound .counts .cycle-high))
 
   pub totals-raisable : {t : List ℕ} → length t ≡ 5752 → decode 8 719 t ≡ countsAfter (decode 8 719 s) → Raisable 583 136 mostFigure t
   unfolding countsAfter
@@ -197,27 +202,26 @@ module _ {s out : List ℕ} (h : Listed s out) where
             };
       }
 
-  module _ {n m : ℕ} (n-read : n ≡ getD (decode 8 719 s) 0 0) (m-read : m ≡ getD (decode 8 719 s) 1 0) where
-    n-is : n ≡ bookIn s .plan .G
-    unfolding figures planOf
-    n-is = n-read ∙ ap (λ (t : Terms). t .generators) (sym (terms-places (decode 8 719 s)))
+  n-is : n ≡ bookIn s .plan .G
+  unfolding figures planOf
+  n-is = ap (λ (t : Terms). t .generators) (h .head .terms-are)
 
-    m-is : m ≡ bookIn s .plan .C
-    unfolding figures planOf
-    m-is = m-read ∙ ap (λ (t : Terms). t .consumers) (sym (terms-places (decode 8 719 s)))
+  m-is : m ≡ bookIn s .plan .C
+  unfolding figures planOf
+  m-is = ap (λ (t : Terms). t .consumers) (h .head .terms-are)
 
-    pub lists-stand : ClosingLists n m out
-    unfolding closingLength
-    lists-stand =
-        record {
-          generators-few = omega (arith, n-is, h .sound .counts .G-high);
-          consumers-few = omega (arith, m-is, h .sound .counts .C-high);
-          size = rw (n-is, m-is) (ap length (h .output) ∙ closing-length (bookIn s));
-          moderate = rw (h .output) (closing-output-moderate (bookIn s) (h .sound));
-        }
+  pub lists-stand : ClosingLists n m out
+  unfolding closingLength
+  lists-stand =
+      record {
+        generators-few = omega (arith, n-is, h .sound .counts .G-high);
+        consumers-few = omega (arith, m-is, h .sound .counts .C-high);
+        size = rw (n-is, m-is) (ap length (h .output) ∙ closing-length (bookIn s));
+        moderate = rw (h .output) (closing-output-moderate (bookIn s) (h .sound));
+      }
 
-    -- the bytes of the changed numbers are those of the record that the rules store
-    pub bytes-after : (t : List ℕ) → length t ≡ 5752 → Below 256 t → decode 8 719 t ≡ stocksReplaced n m out (totalsRaised n m out (countsAfter (decode 8 719 s))) →
-        t ≡ encode 8 (words (stored (afterClosing (bookIn s))))
-    bytes-after t size low e =
-        sym (bytes-of-record t size low) ∙ rw (e, n-is, m-is) (ap (λ (x : Record). encode 8 (words x)) (record-after s out (h .sound) (h .output)))
+  -- the bytes of the changed numbers are those of the record that the rules store
+  pub bytes-after : (t : List ℕ) → length t ≡ 5752 → Below 256 t → decode 8 719 t ≡ stocksReplaced n m out (totalsRaised n m out (countsAfter (decode 8 719 s))) →
+      t ≡ encode 8 (words (stored (afterClosing (bookIn s))))
+  bytes-after t size low e =
+      sym (bytes-of-record t size low) ∙ rw (e, n-is, m-is) (ap (λ (x : Record). encode 8 (words x)) (record-after s out (h .sound) (h .output)))

@@ -2,11 +2,14 @@
 use Prim.Native.Nat.{ℕ, _+_, _*_}
 use mathlib.Core.Path.{_≡_}
 use mathlib.Core.List.{List}
-use lib.ListN.{length, getD, set}
+use lib.ListN.{getD, set}
 use Rattle.record.specs.Stored.{figures}
 use Rattle.record.specs.SoundLaws.{Facts}
 use Rattle.record.specs.Words.{recordOf}
+use Rattle.record.specs.declared.Terms.{Terms}
+use Rattle.record.specs.declared.Counts.{Counts}
 use Rattle.layout_rules.specs.OnBytes.{bookIn}
+use Rattle.layout_rules.specs.Head.{HeadRead}
 use Rattle.layout_rules.specs.Raised.{raised, from}
 use Rattle.layout_rules.specs.Replaced.{replaced}
 use Rattle.raising.specs.Raise.{rowSum, columnSum, OutputLists}
@@ -38,8 +41,8 @@ module _ (n m : ℕ) (out ws : List ℕ) where
 abbrev pub ClosingLists : (n m : ℕ) (out : List ℕ) → Type 0
 ClosingLists n m = OutputLists (n * m + 3 * n + 2 * m) n m
 
--- the bytes s hold a sound record, and the lists of its closing stand in out
-pub record Listed (s out : List ℕ) : Type 0 where
-  pub size : length s ≡ 5752
+-- the bytes s hold a sound record with these terms and counts, and the lists of its closing stand in out
+pub record Listed (s : List ℕ) (terms : Terms) (counts : Counts) (out : List ℕ) : Type 0 where
+  pub head : HeadRead s terms counts
   pub sound : Facts (bookIn s)
   pub output : out ≡ closingOutput (bookIn s)

@@ -6,17 +6,20 @@ use lib.ListN.{getD}
 use Rattle.lists.specs.Choice.{if_then_else_}
 use Rattle.codec.specs.Bytes.{decode}
 use Rattle.record.specs.Stored.{figures}
-use Rattle.record.specs.Words.{recordOf}
-use Rattle.layout_rules.specs.Places.{terms-places, counts-places}
+use Rattle.record.specs.declared.Terms.{Terms}
+use Rattle.record.specs.declared.Counts.{Counts}
+use Rattle.layout_rules.specs.OnBytes.{bookIn}
+use Rattle.layout_rules.specs.Head.{HeadRead}
 use Rattle.layout_rules.specs.Raised.{from}
 use Rattle.raising.specs.Raise.{rowSum, columnSum, Raised, Replaced}
 use Rattle.closing_rules.specs.Closing.{cycleEnds, lapses, goneAfter}
 use Rattle.closing_totals.specs.Totals.{totalsRaised, stocksReplaced}
 
--- months gone after the closing, by the numbers that the code reads
-pub gone-read : (ws : List ℕ) → goneAfter (figures (recordOf ws)) ≡ (if cycleEnds (getD ws 4 0) (getD ws 3 0) then 0 else getD ws 4 0 + 1)
+-- months gone after the closing, by the terms and counts that the call read
+pub gone-after : (s : List ℕ) {terms : Terms} {counts : Counts} → HeadRead s terms counts →
+    goneAfter (bookIn s) ≡ (if cycleEnds (counts .gone) (terms .cycle) then 0 else counts .gone + 1)
 unfolding goneAfter lapses figures
-gone-read ws = rw (terms-places ws, counts-places ws)
+gone-after s head = rw (head .terms-are, head .counts-are)
 
 module _ (n m : ℕ) (out s : List ℕ) where
   pub totals-all : {t u v w x : List ℕ} →

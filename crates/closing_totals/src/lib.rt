@@ -2,17 +2,20 @@
 // Called by this repository's crates only: what a function requires, its callers meet.
 ghost use mathlib.Core.Path.{_≡_};
 ghost use Prim.Native.Nat.{_+_, _≤_};
-ghost use lib.ListN.{length, getD};
+ghost use lib.ListN.{length};
 ghost use Rattle.lists.specs.Choice.{if_then_else_};
 ghost use Rattle.energy.specs.Limits.{mostCycle, mostFigure};
 ghost use Rattle.codec.specs.Bytes.{encode, decode};
 ghost use Rattle.record.specs.Stored.{stored};
 ghost use Rattle.record.specs.Words.{words};
 ghost use Rattle.layout_rules.specs.OnBytes.{bookIn};
+ghost use Rattle.layout_rules.specs.Head.{HeadRead};
 ghost use Rattle.raising.specs.Raise.{Raisable};
 ghost use Rattle.closing_rules.specs.Closing.{cycleEnds, afterClosing};
 ghost use Rattle.closing_totals.specs.Totals.{countsAfter, totalsRaised, stocksReplaced, ClosingLists, Listed};
 use bank::Bank;
+use record::Counts;
+use record::Terms;
 
 // Months gone after the closing; a new cycle starts at 0.
 fn months_gone(gone: u64, cycle: u64) -> u64
@@ -24,12 +27,11 @@ fn months_gone(gone: u64, cycle: u64) -> u64
 }
 
 // The next month, which has no block yet.
-fn start_month(s: &mut [u8])
-    requires { ⌜ (length (now s) ≡ 5752) × (getD (decode 8 719 (now s)) 4 0 ≤ mostCycle) ⌝ }
+fn start_month(s: &mut [u8], terms: Terms, counts: Counts)
+    requires { ⌜ HeadRead (now s) terms counts × (counts .gone ≤ mostCycle) ⌝ }
     ensures { λ _. ⌜ decode 8 719 (now (s .exit)) ≡ countsAfter (decode 8 719 (now (s .entry))) ⌝ }
 {
-    let before = in_place::number_at(s, layout_rules::GONE);
-    let gone = months_gone(before, in_place::number_at(s, layout_rules::CYCLE));
+    let gone = months_gone(counts.gone, terms.cycle);
     in_place::put_at(s, layout_rules::GONE, gone);
     in_place::put_at(s, layout_rules::MONTH, 0);
 }
@@ -58,13 +60,13 @@ fn replace_stocks(s: &mut [u8], out: &[u64], n: usize, m: usize)
 }
 
 // The record after a closing whose lists stand in `out`.
-pub fn enter(s: &mut [u8], out: &[u64])
-    requires { ⌜ Listed (now s) (now out) ⌝ }
+pub fn enter(s: &mut [u8], terms: Terms, counts: Counts, out: &[u64])
+    requires { ⌜ Listed (now s) terms counts (now out) ⌝ }
     ensures { λ _. ⌜ now (s .exit) ≡ encode 8 (words (stored (afterClosing (bookIn (now (s .entry)))))) ⌝ }
 {
-    let n = in_place::number_at(s, layout_rules::GENERATOR_COUNT) as usize;
-    let m = in_place::number_at(s, layout_rules::CONSUMER_COUNT) as usize;
-    start_month(s);
+    let n = terms.generators as usize;
+    let m = terms.consumers as usize;
+    start_month(s, terms, counts);
     raise_totals(s, out, n, m);
     replace_stocks(s, out, n, m);
 }

@@ -5,6 +5,7 @@ use borrow.Author.Needs.{needs}
 use Rattle.codec.specs.Bytes.{decode}
 use Rattle.record.specs.Called.{numberOn}
 use Rattle.record.specs.Words.{recordOf}
+use Rattle.layout_rules.specs.Head.{HeadRead}
 use Rattle.closing_rules.specs.Closing.{closingRule}
 use Rattle.closing.specs.Ready.{listed, closing-accepted, closing-refused}
 use Rattle.closing.proofs.close_on.Statement.{statement}
@@ -19,7 +20,13 @@ load-counts-requires c κs = search needs
 refusal-on-requires : tie.Need-refusal-on-requires
 refusal-on-requires c κs = search needs
 
--- the call is accepted, in the first branch
+-- in the first branch: what was read, and that the call is accepted
+head : (c : tie.Then1) →
+    let counts = c .before .before .before in
+    let terms = counts .before .before in
+    HeadRead (terms .before .before .before .before .args .s .now) (terms .load-terms .result) (counts .load-counts .result)
+head c = search needs
+
 accepted : (c : tie.Then1) →
     let terms = c .before .before .before .before .before in
     let a = terms .before .before .before .before .args in
@@ -27,12 +34,13 @@ accepted : (c : tie.Then1) →
 accepted c = sym (c .before .refusal-on .ensures) ∙ c .if1 .taken
 
 make-requires : tie.Need-make-requires
-make-requires c κs = (search needs, accepted (c .before .before))
+make-requires c κs = let t = c .before .before in (head t, accepted t)
 
 enter-requires : tie.Need-enter-requires
 enter-requires c κs =
     let lists = c .before .before .before .before in
-    listed _ _ (search needs) (accepted (lists .before .before .before)) (lists .make .ensures)
+    let t = lists .before .before .before in
+    listed _ _ (head t) (accepted t) (lists .make .ensures)
 
 same-length : tie.Need-same-length
 same-length c = search needs

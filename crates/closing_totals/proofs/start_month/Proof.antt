@@ -2,15 +2,9 @@
 use mathlib.Core.Path.{_∙_}
 use borrow.Author.Needs.{needs}
 use Rattle.closing_totals.specs.Totals.{countsAfter}
-use Rattle.closing_totals.specs.TotalsLaws.{gone-read}
+use Rattle.closing_totals.specs.TotalsLaws.{gone-after}
 use Rattle.closing_totals.proofs.start_month.Statement.{statement}
 use Rattle.closing_totals.proofs.start_month.Tie as tie
-
-number-at-requires : tie.Need-number-at-requires
-number-at-requires c κs = search needs
-
-number-at-requires-2 : tie.Need-number-at-requires-2
-number-at-requires-2 c κs = search needs
 
 months-gone-requires : tie.Need-months-gone-requires
 months-gone-requires c κs = search needs
@@ -30,14 +24,12 @@ returns c =
     let emptied = c .before .before in
     let entered = emptied .before .before .before .before in
     let next = entered .before .before in
-    emptied .put-at2 .ensures .0 ∙ rw (entered .put-at .ensures .0, next .months-gone .ensures, next .before .before .before .number-at .ensures, next .before .number-at2 .ensures, gone-read)
+    emptied .put-at2 .ensures .0 ∙ rw (entered .put-at .ensures .0, next .months-gone .ensures, gone-after _ (next .before .before .pre .0))
 
 pub start-month-spec : {M : Type 1} → statement M
 start-month-spec =
     tie.close
     (tie.spec
-    number-at-requires
-    number-at-requires-2
     months-gone-requires
     put-at-requires
     put-at-requires-2
