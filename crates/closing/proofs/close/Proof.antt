@@ -19,17 +19,26 @@ close-on-requires : tie.Need-close-on-requires
 close-on-requires c κs = c .before .before .before .store .kept .1 .0
 
 slice-aggregate-load : tie.Need-slice-aggregate-load
-slice-aggregate-load c = sym (c .before .before .before .before .close-on .kept .0 ∙ c .before .before .before .before .before .before .before .before .store .kept .1 .0)
+slice-aggregate-load c =
+    let closed = c .before .before .before .before in
+    let filled = closed .before .before .before .before in
+    sym (closed .close-on .kept .0 ∙ filled .store .kept .1 .0)
 
 load-requires : tie.Need-load-requires
-load-requires c κs = c .before .before .before .before .close-on .kept .0 ∙ c .before .before .before .before .before .before .before .before .store .kept .1 .0
+load-requires c κs =
+    let closed = c .before .before .before .before in
+    let filled = closed .before .before .before .before in
+    closed .close-on .kept .0 ∙ filled .store .kept .1 .0
 
 same-length : tie.Need-same-length
 same-length c = c .before .before .before .before .before .close-on .kept .1 .0
 
 returns : tie.Need-returns
 unfolding recordIn
-returns c = on-struct _ _ (closing-keeps _) (c .before .before .before .before .before .before .before .before .before .store .ensures .1) (c .load .ensures) (c .before .before .before .before .before .close-on .ensures)
+returns c =
+    let closed = c .before .before .before .before .before in
+    let filled = closed .before .before .before .before in
+    on-struct _ _ (closing-keeps _) (filled .store .ensures .1) (c .load .ensures) (closed .close-on .ensures)
 
 pub close-spec : {M : Type 1} → statement M
 close-spec =

@@ -3,6 +3,8 @@ use Prim.Native.Nat.{ℕ, _+_, _*_}
 use mathlib.Core.Path.{_≡_, refl, sym, _∙_}
 use native.Mathlib.Nat.{zero-add}
 use native.Mathlib.Omega.{arith}
+use mathlib.Core.List.{List}
+use lib.ListN.{length}
 use Rattle.arrays.specs.Written.{written-none, written-put, written-all}
 use Rattle.closing_lists.specs.Output.{sixLists}
 use borrow.Author.Needs.{needs}
@@ -27,23 +29,45 @@ add-supplied-at c = search needs
 put-pairs-requires : tie.Need-put-pairs-requires
 put-pairs-requires c κs = let room = c .before .before .pre in (omega (arith, room .size), (room .rows, room .columns))
 
+-- after each list: where the function started, and that the slice has the length that it had there
+abbrev Started : List ℕ → Type 0
+Started out = (start : tie.Start) × (length out ≡ length (start .args .out .now))
+
+abbrev drawn : (c : tie.After-put-pairs) → Started (c .put-pairs .last .0)
+drawn c = (c .before .before .before, c .put-pairs .kept .0)
+
 put8-requires : tie.Need-put8-requires
-put8-requires c κs = let room = c .before .before .before .before .before .before .before .pre in (omega (arith, room .size, c .before .before .before .before .put-pairs .kept .0), room .rows)
+put8-requires c κs = let x = drawn (c .before .before .before .before) in (omega (arith, x .0 .pre .size, x .1), x .0 .pre .rows)
+
+abbrev charge : (c : tie.After-put8) → Started (c .put8 .last .0)
+charge c = let x = drawn (c .before .before .before .before .before) in (x .0, c .put8 .kept .0 ∙ x .1)
 
 put8-requires-2 : tie.Need-put8-requires-2
-put8-requires-2 c κs = let room = c .before .before .before .before .before .before .before .before .before .before .before .before .pre in (omega (arith, room .size, c .before .before .before .before .put8 .kept .0 ∙ c .before .before .before .before .before .before .before .before .before .put-pairs .kept .0), room .rows)
+put8-requires-2 c κs = let x = charge (c .before .before .before .before) in (omega (arith, x .0 .pre .size, x .1), x .0 .pre .rows)
+
+abbrev lapsed : (c : tie.After-put82) → Started (c .put82 .last .0)
+lapsed c = let x = charge (c .before .before .before .before .before) in (x .0, c .put82 .kept .0 ∙ x .1)
 
 put8-requires-3 : tie.Need-put8-requires-3
-put8-requires-3 c κs = let room = c .before .before .before .before .before .before .before .before .before .before .before .before .before .before .before .before .before .pre in (omega (arith, room .size, c .before .before .before .before .put82 .kept .0 ∙ c .before .before .before .before .before .before .before .before .before .put8 .kept .0 ∙ c .before .before .before .before .before .before .before .before .before .before .before .before .before .before .put-pairs .kept .0), room .rows)
+put8-requires-3 c κs = let x = lapsed (c .before .before .before .before) in (omega (arith, x .0 .pre .size, x .1), x .0 .pre .rows)
+
+abbrev bank : (c : tie.After-put83) → Started (c .put83 .last .0)
+bank c = let x = lapsed (c .before .before .before .before .before) in (x .0, c .put83 .kept .0 ∙ x .1)
 
 put16-requires : tie.Need-put16-requires
-put16-requires c κs = let room = c .before .before .before .before .before .before .before .before .before .before .before .before .before .before .before .before .before .before .before .before .before .before .pre in (omega (arith, room .size, c .before .before .before .before .put83 .kept .0 ∙ c .before .before .before .before .before .before .before .before .before .put82 .kept .0 ∙ c .before .before .before .before .before .before .before .before .before .before .before .before .before .before .put8 .kept .0 ∙ c .before .before .before .before .before .before .before .before .before .before .before .before .before .before .before .before .before .before .before .put-pairs .kept .0), room .columns)
+put16-requires c κs = let x = bank (c .before .before .before .before) in (omega (arith, x .0 .pre .size, x .1), x .0 .pre .columns)
+
+abbrev outstanding : (c : tie.After-put16) → Started (c .put16 .last .0)
+outstanding c = let x = bank (c .before .before .before .before .before) in (x .0, c .put16 .kept .0 ∙ x .1)
 
 put16-requires-2 : tie.Need-put16-requires-2
-put16-requires-2 c κs = let room = c .before .before .before .before .before .before .before .before .before .before .before .before .before .before .before .before .before .before .before .before .before .before .before .before .before .before .before .pre in (omega (arith, room .size, c .before .before .before .before .put16 .kept .0 ∙ c .before .before .before .before .before .before .before .before .before .put83 .kept .0 ∙ c .before .before .before .before .before .before .before .before .before .before .before .before .before .before .put82 .kept .0 ∙ c .before .before .before .before .before .before .before .before .before .before .before .before .before .before .before .before .before .before .before .put8 .kept .0 ∙ c .before .before .before .before .before .before .before .before .before .before .before .before .before .before .before .before .before .before .before .before .before .before .before .before .put-pairs .kept .0), room .columns)
+put16-requires-2 c κs = let x = outstanding (c .before .before .before .before) in (omega (arith, x .0 .pre .size, x .1), x .0 .pre .columns)
+
+abbrev supplied : (c : tie.After-put162) → Started (c .put162 .last .0)
+supplied c = let x = outstanding (c .before .before .before .before .before) in (x .0, c .put162 .kept .0 ∙ x .1)
 
 same-length : tie.Need-same-length
-same-length c = c .before .before .put162 .kept .0 ∙ c .before .before .before .before .before .before .before .put16 .kept .0 ∙ c .before .before .before .before .before .before .before .before .before .before .before .before .put83 .kept .0 ∙ c .before .before .before .before .before .before .before .before .before .before .before .before .before .before .before .before .before .put82 .kept .0 ∙ c .before .before .before .before .before .before .before .before .before .before .before .before .before .before .before .before .before .before .before .before .before .before .put8 .kept .0 ∙ c .before .before .before .before .before .before .before .before .before .before .before .before .before .before .before .before .before .before .before .before .before .before .before .before .before .before .before .put-pairs .kept .0
+same-length c = supplied (c .before .before) .1
 
 one-by-one : (k n m : ℕ) → k + 3 * n + 2 * m ≡ k + n + n + n + m + m
 one-by-one k n m = omega arith

@@ -1,6 +1,10 @@
 -- `closing_totals::raise_totals` meets its contract: each list stands behind those that are raised before it. Assumes nothing.
+use Prim.Native.Nat.{ℕ}
+use mathlib.Core.List.{List}
 use native.Mathlib.Omega.{arith}
 use borrow.Author.Needs.{needs}
+use Rattle.energy.specs.Limits.{mostFigure}
+use Rattle.raising.specs.Raise.{Raisable}
 use Rattle.raising.specs.RaiseLaws.{next-list, fewer}
 use Rattle.closing_totals.specs.TotalsLaws.{totals-all}
 use Rattle.closing_totals.proofs.raise_totals.Statement.{statement}
@@ -13,34 +17,52 @@ add-lapsed : tie.Need-add-lapsed
 add-lapsed c = search needs
 
 raise-numbers-requires : tie.Need-raise-numbers-requires
-raise-numbers-requires c κs = let start = c .before .before .before in
+raise-numbers-requires c κs =
+    let start = c .before .before .before in
     let lists = start .pre .1 in
-    let few = lists .generators-few in
-    (fewer _ _ (omega (arith, few)) (omega arith) (start .pre .0), (omega (arith, lists .size), lists .moderate))
+    (fewer _ _ (omega (arith, lists .generators-few)) (omega arith) (start .pre .0), (omega (arith, lists .size), lists .moderate))
+
+-- after each list: where the function started, and that the n numbers from p on can be raised
+abbrev Behind : (p n : ℕ) (s : List ℕ) → Type 0
+Behind p n s = tie.Start × Raisable p n mostFigure s
+
+abbrev charged : (c : tie.After-raise-numbers) → Behind 591 8 (c .raise-numbers .last .0)
+charged c =
+    let start = c .before .before .before .before in
+    (start, next-list 8 8 (start .pre .1 .generators-few) (omega arith) (start .pre .0) (c .raise-numbers .ensures))
 
 raise-rows-requires : tie.Need-raise-rows-requires
-raise-rows-requires c κs = let start = c .before .before .before .before .before .before .before in
-    let lists = start .pre .1 in
-    let few = lists .generators-few in
-    let two = next-list 8 8 few (omega arith) (start .pre .0) (c .before .before .before .raise-numbers .ensures) in
-    (fewer _ _ few (omega arith) two, (omega (arith, lists .size), (lists .consumers-few, lists .moderate)))
+raise-rows-requires c κs =
+    let x = charged (c .before .before .before) in
+    let lists = x .0 .pre .1 in
+    (fewer _ _ (lists .generators-few) (omega arith) (x .1), (omega (arith, lists .size), (lists .consumers-few, lists .moderate)))
+
+abbrev gave : (c : tie.After-raise-rows) → Behind 599 8 (c .raise-rows .last .0)
+gave c =
+    let x = charged (c .before .before .before .before) in
+    (x .0, next-list 8 8 (x .0 .pre .1 .generators-few) (omega arith) (x .1) (c .raise-rows .ensures))
 
 raise-numbers-requires-2 : tie.Need-raise-numbers-requires-2
-raise-numbers-requires-2 c κs = let start = c .before .before .before .before .before .before .before .before .before .before .before in
-    let lists = start .pre .1 in
-    let few = lists .generators-few in
-    let two = next-list 8 8 few (omega arith) (start .pre .0) (c .before .before .before .before .before .before .before .raise-numbers .ensures) in
-    let three = next-list 8 8 few (omega arith) two (c .before .before .before .raise-rows .ensures) in
-    (fewer _ _ few (omega arith) three, (omega (arith, lists .size), lists .moderate))
+raise-numbers-requires-2 c κs =
+    let x = gave (c .before .before .before) in
+    let lists = x .0 .pre .1 in
+    (fewer _ _ (lists .generators-few) (omega arith) (x .1), (omega (arith, lists .size), lists .moderate))
+
+abbrev lapsed : (c : tie.After-raise-numbers2) → Behind 671 48 (c .raise-numbers2 .last .0)
+lapsed c =
+    let x = gave (c .before .before .before .before) in
+    (x .0, next-list 72 48 (omega (arith, x .0 .pre .1 .generators-few)) (omega arith) (x .1) (c .raise-numbers2 .ensures))
 
 raise-columns-requires : tie.Need-raise-columns-requires
-raise-columns-requires c κs = let start = c .before .before .before .before .before .before .before .before .before .before .before .before .before .before .before in
-    let lists = start .pre .1 in
-    let few = lists .generators-few in
-    let two = next-list 8 8 few (omega arith) (start .pre .0) (c .before .before .before .before .before .before .before .before .before .before .before .raise-numbers .ensures) in
-    let three = next-list 8 8 few (omega arith) two (c .before .before .before .before .before .before .before .raise-rows .ensures) in
-    let four = next-list 72 48 (omega (arith, few)) (omega arith) three (c .before .before .before .raise-numbers2 .ensures) in
-    (fewer _ _ (omega (arith, lists .consumers-few)) (omega arith) four, (omega (arith, lists .size), (few, lists .moderate)))
+raise-columns-requires c κs =
+    let x = lapsed (c .before .before .before) in
+    let lists = x .0 .pre .1 in
+    (fewer _ _ (omega (arith, lists .consumers-few)) (omega arith) (x .1), (omega (arith, lists .size), (lists .generators-few, lists .moderate)))
+
+abbrev took : (c : tie.After-raise-columns) → Behind 687 16 (c .raise-columns .last .0)
+took c =
+    let x = lapsed (c .before .before .before .before) in
+    (x .0, next-list 16 16 (x .0 .pre .1 .consumers-few) (omega arith) (x .1) (c .raise-columns .ensures))
 
 mul-raise-numbers : tie.Need-mul-raise-numbers
 mul-raise-numbers c = search needs
@@ -52,21 +74,23 @@ add-raise-numbers-2 : tie.Need-add-raise-numbers-2
 add-raise-numbers-2 c = search needs
 
 raise-numbers-requires-3 : tie.Need-raise-numbers-requires-3
-raise-numbers-requires-3 c κs = let start = c .before .before .before .before .before .before .before .before .before .before .before .before .before .before .before .before .before .before .before in
-    let lists = start .pre .1 in
-    let few = lists .generators-few in
-    let two = next-list 8 8 few (omega arith) (start .pre .0) (c .before .before .before .before .before .before .before .before .before .before .before .before .before .before .before .raise-numbers .ensures) in
-    let three = next-list 8 8 few (omega arith) two (c .before .before .before .before .before .before .before .before .before .before .before .raise-rows .ensures) in
-    let four = next-list 72 48 (omega (arith, few)) (omega arith) three (c .before .before .before .before .before .before .before .raise-numbers2 .ensures) in
-    let five = next-list 16 16 (lists .consumers-few) (omega arith) four (c .before .before .before .raise-columns .ensures) in
-    (fewer _ _ (lists .consumers-few) (omega arith) five, (omega (arith, lists .size), lists .moderate))
+raise-numbers-requires-3 c κs =
+    let x = took (c .before .before .before) in
+    let lists = x .0 .pre .1 in
+    (fewer _ _ (lists .consumers-few) (omega arith) (x .1), (omega (arith, lists .size), lists .moderate))
 
 same-length : tie.Need-same-length
 same-length c = search needs
 
 returns : tie.Need-returns
-returns c = let a = c .before .before .before .before .before .before .before .before .before .before .before .before .before .before .before .before .before .before .before .before .before .before .args in
-    totals-all (a .n) (a .m) (a .out .now) (a .s .now) (c .before .before .before .before .before .before .before .before .before .before .before .before .before .before .before .before .before .before .raise-numbers .ensures) (c .before .before .before .before .before .before .before .before .before .before .before .before .before .before .raise-rows .ensures) (c .before .before .before .before .before .before .before .before .before .before .raise-numbers2 .ensures) (c .before .before .before .before .before .before .raise-columns .ensures) (c .before .before .raise-numbers3 .ensures)
+returns c =
+    let supplied = c .before .before in
+    let took = supplied .before .before .before .before in
+    let lapsed = took .before .before .before .before in
+    let gave = lapsed .before .before .before .before in
+    let charged = gave .before .before .before .before in
+    let a = charged .before .before .before .before .args in
+    totals-all (a .n) (a .m) (a .out .now) (a .s .now) (charged .raise-numbers .ensures) (gave .raise-rows .ensures) (lapsed .raise-numbers2 .ensures) (took .raise-columns .ensures) (supplied .raise-numbers3 .ensures)
 
 pub raise-totals-spec : {M : Type 1} → statement M
 raise-totals-spec =
