@@ -1,4 +1,4 @@
--- What an accepted closing may rely on, and that its steps give the output of the rules. Assumes nothing.
+-- What the steps of an accepted closing may rely on, and that they give the output of the rules. Assumes nothing.
 use Prim.Native.Nat.{ℕ, _≤_}
 use mathlib.Core.Path.{_≡_, refl, ap, _∙_}
 use mathlib.Core.List.{List}
@@ -15,23 +15,23 @@ use Rattle.record.specs.declared.Record.{Record}
 use Rattle.record.specs.declared.Terms.{Terms}
 use Rattle.record.specs.declared.Counts.{Counts}
 use Rattle.bank.specs.Arrays.{Creditable, creditOf, drawingOf, lapseOf}
-use Rattle.closing_lists.specs.Drawable.{Drawable}
-use Rattle.closing_rules.specs.Closing.{cycleEnds, closingOutput, closingRule}
 use Rattle.bank.specs.declared.Credit.{Credit}
 use Rattle.bank.specs.declared.Drawing.{Drawing}
 use Rattle.bank.specs.declared.Lapse.{Lapse}
+use Rattle.closing_rules.specs.Closing.{cycleEnds, closingOutput, closingRule}
 use Rattle.closing_rules.specs.ClosingRefusals.{facts, generators-few, consumers-few, gone-few, output-size}
+use Rattle.closing_lists.specs.Drawable.{Drawable}
 use Rattle.closing_lists.specs.Month.{Month, monthMade, monthIn, month-is}
 use Rattle.closing_lists.specs.Output.{OutputRoom, sixLists, monthWritten, output-is}
 
 module _ (r : Record) (size : ℕ) (z : numberOn (closingRule size) r ≡ 0) where
-  pub creditable : Creditable (record { balance = r .generators .bank }) (r .generators .pending) (r .terms .rate)
+  creditable : Creditable (record { balance = r .generators .bank }) (r .generators .pending) (r .terms .rate)
   unfolding figures generatorAt
   creditable =
       let f = facts r size z in
       record { moderate = λ g l. omega (arith, f .gen g .equation, injected-most (figures r) f g); rate-high = f .counts .rate-high }
 
-  pub drawable : Drawable (planOf r) (r .terms .generators) (r .terms .consumers) (r .consumers .outstanding)
+  drawable : Drawable (planOf r) (r .terms .generators) (r .terms .consumers) (r .consumers .outstanding)
   unfolding figures planOf consumerAt noConsumption
   drawable =
       let f = facts r size z in

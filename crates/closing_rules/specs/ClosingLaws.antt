@@ -1,6 +1,6 @@
 -- Laws of a closing: every subtraction is exact, what it takes it enters elsewhere, it keeps soundness and the cross totals, and
 -- no linked pair is left with bank before the lapse beside energy supplied. Assumes nothing.
-use Prim.Native.Nat.{ℕ, _+_, _≤_, _<_}
+use Prim.Native.Nat.{ℕ, suc, _+_, _-_, _≤_, _<_}
 use mathlib.Core.Path.{_≡_, refl}
 use mathlib.Core.Bool.{Bool, true, false}
 use mathlib.Core.Logic.{_⊎_, inl, inr, ⊎-elim}
@@ -27,12 +27,21 @@ module _ (b : Book) where
   unfolding charge
   charge-le g h = portion-le (takenUp b g) (b .rate) h
 
-  -- what is drawn is taken from what step 1 leaves in the bank, and what a bank has lost in step 2 is what was drawn on it
+  -- what is drawn is taken from the bank, exactly, and is at most what step 1 leaves there
+  pub drawn-le : (g c : ℕ) → drawn b g c ≤ banks b c g
+  unfolding drawn banks
+  drawn-le g c = Turns.drawn-le _ _ _ g c
+
+  pub banks-next : (g c : ℕ) → banks b (suc c) g ≡ banks b c g - drawn b g c
+  unfolding drawn banks
+  banks-next g c = Turns.stock-next _ _ _ g c
+
   pub drawn-most : (g c : ℕ) → drawn b g c ≤ credited b g
   unfolding drawn
   drawn-most g c = Turns.drawn-most _ _ _ g c
 
-  all-drawn : (g : ℕ) → sum (b .plan .C) (drawn b g) + bankBeforeLapse b g ≡ credited b g
+  -- what a generator's bank has lost to the consumers is what they drew on it
+  pub all-drawn : (g : ℕ) → sum (b .plan .C) (drawn b g) + bankBeforeLapse b g ≡ credited b g
   unfolding drawn bankBeforeLapse banks
   all-drawn g = Turns.all-drawn _ _ _ (b .plan .C) g
 

@@ -23,11 +23,11 @@ module _ (serving : ℕ → List ℕ) (stock want : ℕ → ℕ) where
   missing = missingAt serving stock want
 
   -- what is drawn is taken from the stock, exactly
-  drawn-le : (s t : ℕ) → drawn s t ≤ at t s
+  pub drawn-le : (s t : ℕ) → drawn s t ≤ at t s
   unfolding drawnAt
   drawn-le s t = given-le (serving t) (at t) (want t) s
 
-  stock-next : (s t : ℕ) → at (suc t) s ≡ at t s - drawn s t
+  pub stock-next : (s t : ℕ) → at (suc t) s ≡ at t s - drawn s t
   unfolding stockAt drawnAt
   stock-next s t = kept-is (serving t) (at t) (want t) s
 
