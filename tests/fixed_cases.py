@@ -21,6 +21,12 @@ MONTH_LIMIT = 3_360
 UNIT_LIMIT = 10_000_000
 
 
+def fed(calls):
+    """A fixed list as a generator that is sent outcomes, as the random lists are."""
+    for call in calls:
+        yield call
+
+
 def after(calls):
     """The record that the calls leave, to be changed by hand."""
     unit = SecondUnit(Engine())

@@ -2,52 +2,12 @@
 the library and the second engine side by side."""
 
 import ctypes
-import mmap
 
+from harness.lent import Lent, c_call, differing, shift_in, written_around
 from second.calls import (HOST_WRITES, INPUT_NAMES, PATTERN, Outcome, SecondUnit, lent_record,
                           written)
 from second.engine import (CONSUMER_PLACES, CONSUMER_TERMS, GENERATOR_PLACES, GENERATOR_TERMS,
                            PAIR_LISTS, RECORD_BYTES, Engine)
-
-GUARD = bytes((0x5B + 29 * k) % 256 for k in range(64))
-MOST_LENT = 64 * 1024  # a multiple of every usual page size
-NO_ACCESS = 0
-
-
-class Lent:
-    """Memory lent to the library. Guard bytes stand before it; after it stand guard bytes or,
-    if it is lent at the end, a page that faults when read or written."""
-
-    def __init__(self, most=MOST_LENT):
-        self.most = most
-        self.memory = mmap.mmap(-1, most + mmap.PAGESIZE)
-        self.address = ctypes.addressof(ctypes.c_char.from_buffer(self.memory))
-        protect = ctypes.CDLL(None, use_errno=True).mprotect
-        protect.argtypes = (ctypes.c_void_p, ctypes.c_size_t, ctypes.c_int)
-        if protect(self.address + most, mmap.PAGESIZE, NO_ACCESS) != 0:
-            raise OSError(ctypes.get_errno(), "mprotect")
-        self.view = memoryview(self.memory)
-        self.start = self.end = 0
-
-    def lend(self, data, shift):
-        """Gives the address. A shift moves the start, since bytes may be lent at any address;
-        without one the memory is lent at the end. None is lent as a null pointer."""
-        length = len(data or b"")
-        self.start = self.most - length if shift is None else len(GUARD) + shift
-        self.end = self.start + length
-        self.view[self.start - len(GUARD):self.start] = GUARD
-        self.view[self.start:self.end] = data or b""
-        if self.end < self.most:
-            self.view[self.end:self.end + len(GUARD)] = GUARD
-        return None if data is None else self.address + self.start
-
-    def now(self):
-        return bytes(self.view[self.start:self.end])
-
-    def guards_whole(self):
-        before = self.view[self.start - len(GUARD):self.start]
-        after = self.view[self.end:self.end + len(GUARD)]
-        return before == GUARD and (self.end == self.most or after == GUARD)
 
 
 class Library:
@@ -55,14 +15,9 @@ class Library:
 
     def __init__(self, path):
         loaded = ctypes.CDLL(path)
-        a_list = (ctypes.c_void_p, ctypes.c_size_t)
-        self.calls = {}
-        for name, numbers, lists in (("open", 5, 3), ("schedule", 0, 3), ("block", 0, 4),
-                                     ("close", 0, 2)):
-            function = getattr(loaded, "wheeling_" + name)
-            function.argtypes = (ctypes.c_uint32,) * numbers + a_list * lists
-            function.restype = ctypes.c_uint32
-            self.calls[name] = function
+        self.calls = {name: c_call(loaded, "wheeling_" + name, numbers, lists)
+                      for name, numbers, lists in (("open", 5, 3), ("schedule", 0, 3),
+                                                   ("block", 0, 4), ("close", 0, 2))}
         self.lent = {name: Lent() for name in ("record", "output", "first list", "second list")}
 
 
@@ -80,9 +35,8 @@ class LibraryUnit:
         if call.name in HOST_WRITES:
             self.record = written(call, self.record)
             return Outcome(None, self.record, b""), []
-        # In turn at the end of the memory and at each remainder of an address by 8.
         self.turn += 1
-        shift = self.turn // 2 % 8 if self.turn % 2 else None
+        shift = shift_in(self.turn)
         record = None if call.record_bytes is None else lent_record(call, self.record)
         record_argument = (self.lent["record"].lend(record, shift), len(record or b""))
         lists = []
@@ -102,8 +56,7 @@ class LibraryUnit:
             number = function(*record_argument, *lists, *output_argument)
             output = self.lent["output"].now()
 
-        touched = [f"bytes around the {name} were written" for name in used
-                   if not self.lent[name].guards_whole()]
+        touched = written_around({name: self.lent[name] for name in used})
         for name, data, shown in zip(("first list", "second list"), call.lists,
                                      INPUT_NAMES[call.name]):
             if self.lent[name].now() != (data or b""):
@@ -130,12 +83,9 @@ def word_names():
 
 
 def differing_words(what, names, library, second):
-    for at in range(0, max(len(library), len(second)), 8):
-        left, right = library[at:at + 8], second[at:at + 8]
-        if left != right:
-            name = names[at // 8] if at // 8 < len(names) else f"word {at // 8}"
-            yield (f"{what}, {name}: library {int.from_bytes(left, 'little')}, "
-                   f"second engine {int.from_bytes(right, 'little')}")
+    for place, left, right in differing(library, second, 8):
+        name = names[place] if place < len(names) else f"word {place}"
+        yield f"{what}, {name}: library {left}, second engine {right}"
 
 
 def differences(library, second):

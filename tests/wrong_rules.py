@@ -12,7 +12,7 @@ import struct
 import sys
 import time
 
-from fixed_cases import fixed_cases
+from fixed_cases import fed, fixed_cases
 from random_calls import calls_of
 from second.calls import SecondUnit
 from second.engine import (CONSUMER_TERMS, GENERATOR_TERMS, MINI_HYDEL, WH_PER_KW_IN_A_BLOCK,
@@ -326,11 +326,6 @@ def recorded(calls):
         made.append((call, outcome))
 
 
-def fixed_list(calls):
-    for call in calls:
-        yield call
-
-
 def calls_until_difference(engine, lists):
     """Calls made until the wrong engine differs, or None. A fault in it is a difference too."""
     count = 0
@@ -354,7 +349,7 @@ def main():
     parser.add_argument("--seed", type=int, default=1)
     arguments = parser.parse_args()
     begun = time.monotonic()
-    fixed = [recorded(fixed_list(calls)) for _, calls in fixed_cases()]
+    fixed = [recorded(fed(calls)) for _, calls in fixed_cases()]
     drawn_by_lot = [recorded(calls_of(arguments.seed, kind, index))
                     for kind, count in (("list", arguments.lists), ("month", arguments.months))
                     for index in range(count)]
