@@ -10,19 +10,16 @@
  * All inputs and buffers are prepared before anything is measured, and no record is copied
  * inside a measured loop. */
 
-#include <stdint.h>
 #include <stdio.h>
 #include <stdlib.h>
 #include <string.h>
 #include <time.h>
 #include <ucontext.h>
 
+#include "engines.h"
+
 enum {
-    RECORD_BYTES = 5752,
-    MOST_GENERATORS = 8,
-    MOST_CONSUMERS = 16,
-    MOST_PAIRS = MOST_GENERATORS * MOST_CONSUMERS,
-    MOST_OUTPUT_BYTES = 8 * (4 * MOST_PAIRS + MOST_GENERATORS + MOST_CONSUMERS),
+    MOST_OUTPUT_BYTES = BLOCK_OUTPUT_BYTES(MOST_GENERATORS, MOST_CONSUMERS),
     MARGIN = 16, /* bytes behind each buffer, for lengths that are too long */
 
     UNITS = 4,
@@ -44,29 +41,10 @@ enum {
 
 /* ---- the engines ---- */
 
-#define INTERFACE(prefix)                                                                     \
-    uint32_t prefix##_open(uint32_t, uint32_t, uint32_t, uint32_t, uint32_t, const uint8_t *, \
-                           size_t, const uint8_t *, size_t, uint8_t *, size_t);               \
-    uint32_t prefix##_schedule(uint8_t *, size_t, const uint8_t *, size_t, const uint8_t *,   \
-                               size_t);                                                       \
-    uint32_t prefix##_block(uint8_t *, size_t, const uint8_t *, size_t, const uint8_t *,      \
-                            size_t, uint8_t *, size_t);                                       \
-    uint32_t prefix##_close(uint8_t *, size_t, uint8_t *, size_t);
+DECLARE_ENGINE(wheeling);
+DECLARE_ENGINE(plain);
+DECLARE_ENGINE(empty);
 
-INTERFACE(wheeling)
-INTERFACE(plain)
-INTERFACE(empty)
-
-struct engine {
-    uint32_t (*open)(uint32_t, uint32_t, uint32_t, uint32_t, uint32_t, const uint8_t *, size_t,
-                     const uint8_t *, size_t, uint8_t *, size_t);
-    uint32_t (*schedule)(uint8_t *, size_t, const uint8_t *, size_t, const uint8_t *, size_t);
-    uint32_t (*block)(uint8_t *, size_t, const uint8_t *, size_t, const uint8_t *, size_t,
-                      uint8_t *, size_t);
-    uint32_t (*close)(uint8_t *, size_t, uint8_t *, size_t);
-};
-
-#define ENGINE(prefix) {prefix##_open, prefix##_schedule, prefix##_block, prefix##_close}
 static const struct engine VERIFIED = ENGINE(wheeling);
 static const struct engine PLAIN = ENGINE(plain);
 /* Its calls do nothing: the stack of a measured loop itself. */
@@ -93,26 +71,6 @@ static uint64_t random_number(void)
 static uint32_t below(uint32_t bound)
 {
     return (uint32_t)(random_number() % bound);
-}
-
-static void put(uint8_t *list, size_t place, uint32_t value)
-{
-    for (int byte = 0; byte < 4; byte++)
-        list[4 * place + byte] = (uint8_t)(value >> (8 * byte));
-}
-
-static uint64_t record_number(const uint8_t *record, size_t place)
-{
-    uint64_t value = 0;
-    for (int byte = 0; byte < 8; byte++)
-        value |= (uint64_t)record[8 * place + byte] << (8 * byte);
-    return value;
-}
-
-static void set_record_number(uint8_t *record, size_t place, uint64_t value)
-{
-    for (int byte = 0; byte < 8; byte++)
-        record[8 * place + byte] = (uint8_t)(value >> (8 * byte));
 }
 
 static double seconds_of(clockid_t clock)
@@ -164,16 +122,16 @@ static void draw_unit(struct unit *unit, uint32_t number)
     for (uint32_t g = 0; g < generators; g++) {
         uint32_t kind = (g + number) % 2 == 0 ? 0 : 1 + below(3);
         uint32_t installed = 1000 + below(20000), contracted = 1000 + below(20000);
-        put(unit->generator_list, 3 * g, kind);
-        put(unit->generator_list, 3 * g + 1, installed);
-        put(unit->generator_list, 3 * g + 2, contracted);
+        put_input(unit->generator_list, 3 * g, kind);
+        put_input(unit->generator_list, 3 * g + 1, installed);
+        put_input(unit->generator_list, 3 * g + 2, contracted);
         lower[g] = installed < contracted ? installed : contracted;
     }
     for (uint32_t pair = 0; pair < pairs; pair++) {
         uint32_t g = pair / consumers, c = pair % consumers;
         linked[pair] = c == g % consumers || below(4) != 0;
-        put(unit->pair_list, pair, linked[pair]);
-        put(unit->pair_list, pairs + pair, below(3) == 0 ? 0 : below(1500));
+        put_input(unit->pair_list, pair, linked[pair]);
+        put_input(unit->pair_list, pairs + pair, below(3) == 0 ? 0 : below(1500));
     }
 
     for (uint32_t s = 0; s < SCHEDULES; s++) {
@@ -185,8 +143,8 @@ static void draw_unit(struct unit *unit, uint32_t number)
                 uint32_t kw = linked[pair] && below(5) != 0 ? below(most + 1) : 0;
                 kw = kw < left ? kw : left;
                 left -= kw;
-                put(unit->kw[s], pair, kw);
-                put(unit->ranks[s], pair, 1 + below(below(2) ? 3 : 255));
+                put_input(unit->kw[s], pair, kw);
+                put_input(unit->ranks[s], pair, 1 + below(below(2) ? 3 : 255));
             }
         }
     }
@@ -196,11 +154,11 @@ static void draw_unit(struct unit *unit, uint32_t number)
         for (uint32_t g = 0; g < generators; g++) {
             uint32_t entry = below(16) == 0 ? 0 : 250 * (uint64_t)lower[g] * below(1300) / 1000;
             injected += entry;
-            put(unit->entry[r], g, entry);
+            put_input(unit->entry[r], g, entry);
         }
         for (uint32_t c = 0; c < consumers; c++)
-            put(unit->exit[r], c,
-                below(16) == 0 ? 0 : (uint32_t)(injected * below(2000) / 1000 / consumers));
+            put_input(unit->exit[r], c,
+                      below(16) == 0 ? 0 : (uint32_t)(injected * below(2000) / 1000 / consumers));
     }
 }
 
@@ -242,8 +200,8 @@ static void prepare(uint32_t shape_generators, uint32_t shape_consumers,
         consumers > MOST_CONSUMERS)
         fail("no such shape");
     pairs = generators * consumers;
-    block_output_bytes = 8 * (4 * pairs + generators + consumers);
-    closing_output_bytes = 8 * (pairs + 3 * generators + 2 * consumers);
+    block_output_bytes = BLOCK_OUTPUT_BYTES(generators, consumers);
+    closing_output_bytes = CLOSE_OUTPUT_BYTES(generators, consumers);
     random_state = 1000 * generators + consumers;
     for (uint32_t u = 0; u < UNITS; u++)
         draw_unit(&units[u], u);
@@ -261,7 +219,6 @@ static void prepare(uint32_t shape_generators, uint32_t shape_consumers,
 
 /* ---- the measured loops ---- */
 
-enum call { OPEN, SCHEDULE, BLOCK, CLOSE, CALLS };
 static const char *const CALL_NAMES[CALLS] = {"open", "schedule", "block", "close"};
 static const uint32_t CALLS_ON_A_RECORD[CALLS] = {MEASURED_OPENINGS, SCHEDULES, MEASURED_BLOCKS, 1};
 
@@ -556,27 +513,26 @@ static uint64_t altered_number(uint64_t number)
 
 static void alter_record(uint8_t *record)
 {
-    enum { UNIT_BLOCKS = 5, MONTH_BLOCKS = 6, NUMBERS = RECORD_BYTES / 8 };
     switch (below(8)) {
     case 0: {
-        size_t place = below(NUMBERS);
+        size_t place = below(RECORD_NUMBERS);
         set_record_number(record, place, altered_number(record_number(record, place)));
         break;
     }
     case 1: {
-        size_t place = below(7); /* the counts in front */
+        size_t place = below(RECORD_COUNTS);
         set_record_number(record, place, altered_number(record_number(record, place)));
         break;
     }
     case 2:
-        set_record_number(record, UNIT_BLOCKS, 10000000 - below(2));
+        set_record_number(record, AT_UNIT_BLOCKS, MOST_UNIT_BLOCKS - below(2));
         break;
     case 3:
-        set_record_number(record, UNIT_BLOCKS, 10000000);
-        set_record_number(record, MONTH_BLOCKS, 3360 - below(2));
+        set_record_number(record, AT_UNIT_BLOCKS, MOST_UNIT_BLOCKS);
+        set_record_number(record, AT_MONTH_BLOCKS, MOST_MONTH_BLOCKS - below(2));
         break;
     case 4:
-        set_record_number(record, MONTH_BLOCKS, below(2));
+        set_record_number(record, AT_MONTH_BLOCKS, below(2));
         break;
     default:
         break;
@@ -586,7 +542,7 @@ static void alter_record(uint8_t *record)
 static void maybe_alter_input(uint8_t *list, uint32_t count)
 {
     if (below(8) == 0)
-        put(list, below(count), altered_input());
+        put_input(list, below(count), altered_input());
 }
 
 /* A list of length 0 is sometimes no list at all. */

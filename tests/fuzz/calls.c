@@ -13,55 +13,29 @@
  * are allowed and some are not; where the bytes end, zeros follow. */
 
 #define _DEFAULT_SOURCE /* MAP_ANONYMOUS */
-#include <stdint.h>
 #include <stdio.h>
 #include <stdlib.h>
 #include <string.h>
 #include <sys/mman.h>
 
+#include "../../bench/engines.h"
+
 enum {
-    MOST_GENERATORS = 8,
-    MOST_CONSUMERS = 16,
-    MOST_PAIRS = MOST_GENERATORS * MOST_CONSUMERS,
-    RECORD_NUMBERS = 719,
-    RECORD_BYTES = 8 * RECORD_NUMBERS,
     MOST_CALLS = 200, /* of one input */
 
     /* places in the record, counted in numbers */
     AT_GENERATORS = 0,
     AT_CONSUMERS = 1,
-    AT_UNIT_BLOCKS = 5,
-    AT_MONTH_BLOCKS = 6,
-    AT_AGREED = 7,
+    AT_AGREED = RECORD_COUNTS,
     AT_LINKS = 31,
     AT_INJECTED = 543,
     AT_METERED = 623,
 };
 
-#define INTERFACE(prefix)                                                                     \
-    uint32_t prefix##_open(uint32_t, uint32_t, uint32_t, uint32_t, uint32_t, const uint8_t *, \
-                           size_t, const uint8_t *, size_t, uint8_t *, size_t);               \
-    uint32_t prefix##_schedule(uint8_t *, size_t, const uint8_t *, size_t, const uint8_t *,   \
-                               size_t);                                                       \
-    uint32_t prefix##_block(uint8_t *, size_t, const uint8_t *, size_t, const uint8_t *,      \
-                            size_t, uint8_t *, size_t);                                       \
-    uint32_t prefix##_close(uint8_t *, size_t, uint8_t *, size_t);
+DECLARE_ENGINE(wheeling);
+DECLARE_ENGINE(traced_wheeling);
+DECLARE_ENGINE(plain);
 
-INTERFACE(wheeling)
-INTERFACE(traced_wheeling)
-INTERFACE(plain)
-
-struct engine {
-    const char *name;
-    uint32_t (*open)(uint32_t, uint32_t, uint32_t, uint32_t, uint32_t, const uint8_t *, size_t,
-                     const uint8_t *, size_t, uint8_t *, size_t);
-    uint32_t (*schedule)(uint8_t *, size_t, const uint8_t *, size_t, const uint8_t *, size_t);
-    uint32_t (*block)(uint8_t *, size_t, const uint8_t *, size_t, const uint8_t *, size_t,
-                      uint8_t *, size_t);
-    uint32_t (*close)(uint8_t *, size_t, uint8_t *, size_t);
-};
-
-#define ENGINE(prefix) {#prefix, prefix##_open, prefix##_schedule, prefix##_block, prefix##_close}
 static const struct engine ENGINES[] = {
     ENGINE(plain),
     ENGINE(wheeling),
@@ -212,16 +186,12 @@ static uint8_t record[RECORD_BYTES]; /* as the calls left it: all engines hold t
 
 static uint64_t stored(size_t place)
 {
-    uint64_t value = 0;
-    for (int byte = 0; byte < 8; byte++)
-        value |= (uint64_t)record[8 * place + byte] << (8 * byte);
-    return value;
+    return record_number(record, place);
 }
 
 static void store(size_t place, uint64_t value)
 {
-    for (int byte = 0; byte < 8; byte++)
-        record[8 * place + byte] = (uint8_t)(value >> (8 * byte));
+    set_record_number(record, place, value);
 }
 
 /* G and C of the record, or 1 where they are no such counts. */
@@ -251,8 +221,7 @@ static void finish_list(struct list *list, size_t count)
     for (uint32_t replaced = next_byte(); count > 0 && replaced >= 192; replaced = next_byte())
         list->numbers[next_byte() % count] = replaced & 1 ? edge() : next_number(4);
     for (size_t at = 0; at < sizeof list->numbers / sizeof *list->numbers; at++)
-        for (int byte = 0; byte < 4; byte++)
-            list->bytes[4 * at + byte] = (uint8_t)(list->numbers[at] >> (8 * byte));
+        put_input(list->bytes, at, list->numbers[at]);
     list->size = 4 * count;
 }
 
@@ -269,8 +238,6 @@ static size_t maybe_altered(size_t size)
 }
 
 /* ---- one call on every engine ---- */
-
-enum call { OPEN, SCHEDULE, BLOCK, CLOSE };
 
 static void call_all(enum call call, const uint32_t terms[5], struct list lists[2],
                      size_t output_size)
@@ -404,7 +371,7 @@ static void blocks(uint32_t count)
             lists[1].numbers[c] = most_exit == UINT32_MAX ? most_exit : random_below(most_exit + 1);
         finish_list(&lists[0], G);
         finish_list(&lists[1], C);
-        call_all(BLOCK, NO_TERMS, lists, 8 * (4 * G * C + G + C));
+        call_all(BLOCK, NO_TERMS, lists, BLOCK_OUTPUT_BYTES(G, C));
     }
 }
 
@@ -412,7 +379,7 @@ static void close_month(void)
 {
     uint32_t G = generators(), C = consumers();
     lists[0].size = lists[1].size = 0;
-    call_all(CLOSE, NO_TERMS, lists, 8 * (G * C + 3 * G + 2 * C));
+    call_all(CLOSE, NO_TERMS, lists, CLOSE_OUTPUT_BYTES(G, C));
 }
 
 /* ---- what a host may do to the record between calls ---- */
@@ -420,7 +387,7 @@ static void close_month(void)
 static void damage(void)
 {
     uint32_t how = next_byte();
-    size_t place = how & 1 ? next_byte() % 7 : next_number(2) % RECORD_NUMBERS;
+    size_t place = how & 1 ? next_byte() % RECORD_COUNTS : next_number(2) % RECORD_NUMBERS;
     uint64_t was = stored(place);
     switch (how / 2 % 6) {
     case 0: store(place, was + 1); break;
@@ -435,8 +402,8 @@ static void damage(void)
 /* An older unit: the record stays sound if it was. */
 static void age(void)
 {
-    uint64_t month = next_byte() & 1 ? 3360 - next_byte() % 4 : next_byte() % 4;
-    store(AT_UNIT_BLOCKS, 10000000 - next_byte() % 4);
+    uint64_t month = next_byte() & 1 ? MOST_MONTH_BLOCKS - next_byte() % 4 : next_byte() % 4;
+    store(AT_UNIT_BLOCKS, MOST_UNIT_BLOCKS - next_byte() % 4);
     store(AT_MONTH_BLOCKS, month);
 }
 

@@ -1,0 +1,76 @@
+/* The engines that bench/driver.c and tests/fuzz/calls.c run side by side. Each has the same four
+ * C calls under a prefix of its own, on the same bytes: 4 for a number of an input, 8 for one of
+ * the record or of an output, low byte first. */
+#ifndef ENGINES_H
+#define ENGINES_H
+
+#include <stddef.h>
+#include <stdint.h>
+
+enum {
+    MOST_GENERATORS = 8,
+    MOST_CONSUMERS = 16,
+    MOST_PAIRS = MOST_GENERATORS * MOST_CONSUMERS,
+    MOST_MONTH_BLOCKS = 3360,
+    MOST_UNIT_BLOCKS = 10000000,
+    RECORD_NUMBERS = 719,
+    RECORD_BYTES = 8 * RECORD_NUMBERS,
+    RECORD_COUNTS = 7, /* the first places of the record, before its lists; two of them: */
+    AT_UNIT_BLOCKS = 5,
+    AT_MONTH_BLOCKS = 6,
+};
+
+enum call { OPEN, SCHEDULE, BLOCK, CLOSE, CALLS };
+
+/* G, C, rate, cycle, months gone; the lists of generators and pairs; the record */
+typedef uint32_t open_call(uint32_t, uint32_t, uint32_t, uint32_t, uint32_t, const uint8_t *,
+                           size_t, const uint8_t *, size_t, uint8_t *, size_t);
+/* the record; kW; ranks */
+typedef uint32_t schedule_call(uint8_t *, size_t, const uint8_t *, size_t, const uint8_t *, size_t);
+/* the record; entry readings; exit readings; the output */
+typedef uint32_t block_call(uint8_t *, size_t, const uint8_t *, size_t, const uint8_t *, size_t,
+                            uint8_t *, size_t);
+/* the record; the output */
+typedef uint32_t close_call(uint8_t *, size_t, uint8_t *, size_t);
+
+struct engine {
+    const char *name;
+    open_call *open;
+    schedule_call *schedule;
+    block_call *block;
+    close_call *close;
+};
+
+#define DECLARE_ENGINE(prefix)              \
+    extern open_call prefix##_open;         \
+    extern schedule_call prefix##_schedule; \
+    extern block_call prefix##_block;       \
+    extern close_call prefix##_close
+
+/* The value of a struct engine. */
+#define ENGINE(prefix) {#prefix, prefix##_open, prefix##_schedule, prefix##_block, prefix##_close}
+
+#define BLOCK_OUTPUT_BYTES(g, c) (8 * (4 * (g) * (c) + (g) + (c)))
+#define CLOSE_OUTPUT_BYTES(g, c) (8 * ((g) * (c) + 3 * (g) + 2 * (c)))
+
+static inline void put_input(uint8_t *list, size_t place, uint32_t value)
+{
+    for (int byte = 0; byte < 4; byte++)
+        list[4 * place + byte] = (uint8_t)(value >> (8 * byte));
+}
+
+static inline uint64_t record_number(const uint8_t *record, size_t place)
+{
+    uint64_t value = 0;
+    for (int byte = 0; byte < 8; byte++)
+        value |= (uint64_t)record[8 * place + byte] << (8 * byte);
+    return value;
+}
+
+static inline void set_record_number(uint8_t *record, size_t place, uint64_t value)
+{
+    for (int byte = 0; byte < 8; byte++)
+        record[8 * place + byte] = (uint8_t)(value >> (8 * byte));
+}
+
+#endif
