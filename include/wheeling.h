@@ -86,7 +86,7 @@ extern "C" {
 #define WHEELING_MOST_BLOCK_OUTPUT_BYTES 4288u
 #define WHEELING_MOST_CLOSE_OUTPUT_BYTES 1472u
 
-/* The stack that any call needs below its caller's frame, in bytes, at most. `make bench` measures each call; tests/stack.c
+/* The stack that any call needs below its caller's frame, in bytes, at most. `make bench` measures each call; tests/c/stack.c
  * fails where one touches more than this. */
 #define WHEELING_STACK_BYTES 16384u
 

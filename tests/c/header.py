@@ -13,11 +13,16 @@ import re
 import subprocess
 import sys
 import tempfile
+from pathlib import Path
 
-from second.engine import (CONSUMER_PLACES, GENERATOR_PLACES, RECORD_BYTES, RECORD_FORM,
-                           RECORD_WORDS, Engine, Record, record_from_bytes)
+sys.path.insert(0, str(Path(__file__).resolve().parent.parent))
 
+from second.engine import (CONSUMER_PLACES, GENERATOR_PLACES, RECORD_BYTES,  # noqa: E402
+                           RECORD_FORM, RECORD_WORDS, Engine, Record, record_from_bytes)
+
+REPOSITORY = Path(__file__).resolve().parents[2]  # the folder of what follows
 HEADER = "include/wheeling.h"
+STACK = "tests/c/stack.c"
 COMPILERS = (("gcc", "c99", ".c"), ("g++", "c++98", ".cpp"), ("g++", "c++17", ".cpp"))
 STRICT = ("-O1", "-Wall", "-Wextra", "-pedantic", "-Werror", "-Iinclude")
 
@@ -116,7 +121,8 @@ def main():
     if len(sys.argv) != 2:
         print(__doc__)
         return 2
-    archive = sys.argv[1]
+    archive = os.path.abspath(sys.argv[1])
+    os.chdir(REPOSITORY)
     names = macros()
     failed = 0
     figures = {name[len("AT_"):].lower() for name, _ in names if name.startswith("AT_")}
@@ -134,11 +140,11 @@ def main():
                 failed += 1
                 print(f"header: FAILED: {compiler} -std={standard}; lines that differ:",
                       *sorted(set(lines) ^ set(expected_lines(names)))[:8], sep="\n    ")
-        good, printed = run_program("gcc", "c99", "tests/stack.c", archive, folder)
+        good, printed = run_program("gcc", "c99", STACK, archive, folder)
         print(printed, end="")
         if not good:
             failed += 1
-            print("header: FAILED: tests/stack.c")
+            print(f"header: FAILED: {STACK}")
     print(f"header: {len(names)} macros, {len(expected_lines(names))} values, {failed} failed")
     return 1 if failed else 0
 

@@ -16,15 +16,20 @@ import re
 import subprocess
 import sys
 import tempfile
+from pathlib import Path
 
-from second.calls import SecondUnit, block_call, close_call, open_call, schedule_call
-from second.engine import (ACCEPTED, CONSUMER_TERMS, GENERATOR_TERMS, RECORD_BYTES, Engine,
-                           record_from_bytes)
-from second.table import (CONSUMERS, CYCLE, GENERATOR_LIST, GENERATORS, GONE, KW, PAIR_LIST, RANKS,
-                          RATE, names_line, read_line)
+sys.path.insert(0, str(Path(__file__).resolve().parent.parent))
 
+from second.calls import SecondUnit, block_call, close_call, open_call, schedule_call  # noqa: E402
+from second.engine import (ACCEPTED, CONSUMER_TERMS, GENERATOR_TERMS, RECORD_BYTES,  # noqa: E402
+                           Engine, record_from_bytes)
+from second.table import (CONSUMERS, CYCLE, GENERATOR_LIST, GENERATORS, GONE, KW,  # noqa: E402
+                          PAIR_LIST, RANKS, RATE, names_line, read_line)
+
+REPOSITORY = Path(__file__).resolve().parents[2]  # the folder of what follows
 HOST = "examples/host.c"
 DAY = "examples/day.journal"
+POWER_CUT = "tests/c/power_cut.c"
 STRICT = ("-std=c99", "-O1", "-Wall", "-Wextra", "-pedantic", "-Wconversion", "-Wshadow", "-Werror")
 FILE_CALLS = ("open", "read", "write", "fsync", "close", "rename")
 MEMCHECK = ("valgrind", "--quiet", "--leak-check=full", "--show-leak-kinds=all",
@@ -234,7 +239,7 @@ WRONG_HOSTS = (
 
 
 def build_with_faults(archive, source, output):
-    return run("gcc", "-std=c99", "-O1", "-Iinclude", "-o", output, source, "tests/power_cut.c",
+    return run("gcc", "-std=c99", "-O1", "-Iinclude", "-o", output, source, POWER_CUT,
                archive, "-Wl," + ",".join("--wrap=" + name for name in FILE_CALLS))
 
 
@@ -337,7 +342,8 @@ def main():
     if len(sys.argv) != 2:
         print(__doc__)
         return 2
-    archive = sys.argv[1]
+    archive = os.path.abspath(sys.argv[1])
+    os.chdir(REPOSITORY)
     with tempfile.TemporaryDirectory() as folder:
         host = os.path.join(folder, "host")
         build("the example host", "gcc", *STRICT, "-Iinclude", "-o", host, HOST, archive)

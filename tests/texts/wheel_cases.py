@@ -9,12 +9,12 @@ differs.
 """
 
 import argparse
-import os
 import random
 import subprocess
 import sys
+from pathlib import Path
 
-sys.path.insert(0, os.path.dirname(os.path.abspath(__file__)))
+sys.path.insert(0, str(Path(__file__).resolve().parent.parent))
 
 from second import paper_cases, table  # noqa: E402
 

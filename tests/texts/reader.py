@@ -24,14 +24,18 @@ import struct
 import sys
 from functools import lru_cache
 from itertools import islice
+from pathlib import Path
 from typing import NamedTuple
 
-from harness.lent import WAYS_TO_LEND, Lent, c_call, differing, shift_in, written_around
-from harness.side_by_side import SideBySide, print_found
-from reader_texts import Case, fixed_cases, random_case
-from second.calls import packed
-from second.engine import ACCEPTED
-from second.table import read_table
+sys.path.insert(0, str(Path(__file__).resolve().parent.parent))
+
+from harness.lent import (WAYS_TO_LEND, Lent, c_call, differing, shift_in,  # noqa: E402
+                          written_around)
+from harness.side_by_side import SideBySide, print_found  # noqa: E402
+from reader_texts import Case, fixed_cases, random_case  # noqa: E402
+from second.calls import packed  # noqa: E402
+from second.engine import ACCEPTED  # noqa: E402
+from second.table import read_table  # noqa: E402
 
 DEFAULT_TABLES = 20_000
 NUMBERS = (ACCEPTED, 2, 14, 15, 16)

@@ -15,12 +15,15 @@ import random
 import statistics
 import sys
 import time
+from pathlib import Path
 
-from library import Library, differing_words, word_names
-from second.calls import open_call, packed, schedule_call
-from second.demand_3 import broken_by_record, idle_bank
-from second.engine import (ACCEPTED, RECORD_BYTES, WH_PER_KW_IN_A_BLOCK, Engine, outputs_to_bytes,
-                           record_from_bytes, record_to_bytes)
+sys.path.insert(0, str(Path(__file__).resolve().parent.parent))
+
+from library import Library, differing_words, word_names  # noqa: E402
+from second.calls import open_call, packed, schedule_call  # noqa: E402
+from second.demand_3 import broken_by_record, idle_bank  # noqa: E402
+from second.engine import (ACCEPTED, RECORD_BYTES, WH_PER_KW_IN_A_BLOCK, Engine,  # noqa: E402
+                           outputs_to_bytes, record_from_bytes, record_to_bytes)
 
 MONTHS = 144
 BLOCKS_A_MONTH = 2_922  # a twelfth of 35,064, a year of 365.25 days

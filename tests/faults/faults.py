@@ -42,8 +42,9 @@ class Tested(NamedTuple):
         return reached_by(self.library) + [self.library]
 
 
-CALLS = Tested("the C calls", TESTS / "compare.py", LIBRARY, None)
-READER = Tested("the reader", TESTS / "reader.py", "table", TESTS / "reader.rt.in")
+CALLS = Tested("the C calls", TESTS / "calls" / "compare.py", LIBRARY, None)
+READER = Tested("the reader", TESTS / "texts" / "reader.py", "table",
+                TESTS / "texts" / "reader.rt.in")
 
 # By the part that they are in: name, then old text and new text, at times several of them. An old
 # text stands once in all the source under test, so that it says which file is changed. `*::` in it

@@ -17,15 +17,18 @@ an endless call is reported likewise.
 import sys
 from collections import Counter
 from itertools import count, islice
+from pathlib import Path
 from typing import NamedTuple
 
-from fixed_cases import fed, fixed_cases
-from harness.side_by_side import SideBySide, for_seconds, print_found
-from library import Library, Pair
-from random_calls import calls_of
-from second.calls import HOST_WRITES, SecondUnit, from_text, packed, to_text
-from second.demand_3 import broken_by_record, idle_bank
-from second.engine import ACCEPTED, Engine, inputs_from_bytes, record_from_bytes
+sys.path.insert(0, str(Path(__file__).resolve().parent.parent))
+
+from fixed_cases import fed, fixed_cases  # noqa: E402
+from harness.side_by_side import SideBySide, for_seconds, print_found  # noqa: E402
+from library import Library, Pair  # noqa: E402
+from random_calls import calls_of  # noqa: E402
+from second.calls import HOST_WRITES, SecondUnit, from_text, packed, to_text  # noqa: E402
+from second.demand_3 import broken_by_record, idle_bank  # noqa: E402
+from second.engine import ACCEPTED, Engine, inputs_from_bytes, record_from_bytes  # noqa: E402
 
 DEFAULT_LISTS = 2_000
 DEFAULT_MONTHS = 200

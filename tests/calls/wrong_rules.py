@@ -11,12 +11,15 @@ import argparse
 import struct
 import sys
 import time
+from pathlib import Path
 
-from fixed_cases import fed, fixed_cases
-from random_calls import calls_of
-from second.calls import SecondUnit
-from second.engine import (CONSUMER_TERMS, GENERATOR_TERMS, MINI_HYDEL, WH_PER_KW_IN_A_BLOCK,
-                           WHOLE, WIND, Engine, rounded_up, taken_in_order)
+sys.path.insert(0, str(Path(__file__).resolve().parent.parent))
+
+from fixed_cases import fed, fixed_cases  # noqa: E402
+from random_calls import calls_of  # noqa: E402
+from second.calls import SecondUnit  # noqa: E402
+from second.engine import (CONSUMER_TERMS, GENERATOR_TERMS, MINI_HYDEL,  # noqa: E402
+                           WH_PER_KW_IN_A_BLOCK, WHOLE, WIND, Engine, rounded_up, taken_in_order)
 
 WRONG_RULES = {}
 
