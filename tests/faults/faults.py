@@ -46,49 +46,39 @@ CALLS = Tested("the C calls", TESTS / "calls" / "compare.py", LIBRARY, None)
 READER = Tested("the reader", TESTS / "texts" / "reader.py", "table",
                 TESTS / "texts" / "reader.rt.in")
 
-# By the part that they are in: name, then old text and new text, at times several of them. An old
-# text stands once in all the source under test, so that it says which file is changed. `*::` in it
-# stands for the path before a name, whatever it is: crates and modules are renamed. In the new text
-# `*::` is the same path, the second the second path of the old text and so on.
+# By part and name: old text and new text, at times several of both. An old text stands once in all
+# the source under test, so that it also says which file is changed. `*::` in it stands for the path
+# before a name, whatever the crate or module is called; in the new text for the path found there,
+# the first for the first and so on.
 FAULTS = {
     "opening": {
-        "gone equal to the cycle allowed":
-            ("& (gone < cycle)", "& (gone <= cycle)"),
-        "kind 4 allowed":
-            ("n, 0, *::LAST_KIND", "n, 0, 4"),
+        "gone equal to the cycle allowed": ("& (gone < cycle)", "& (gone <= cycle)"),
+        "kind 4 allowed": ("n, 0, *::LAST_KIND", "n, 0, 4"),
         "links over 1 allowed":
             ("any_outside(pair_list, 0, count, 0, 1)", "any_outside(pair_list, 0, count, 0, 2)"),
-        "rate of 5,001 allowed":
-            ("wide(rate) <= *::MOST_RATE", "wide(rate) <= 5_001"),
-        "losses read from the links":
-            ("spread(list, n * m, n, m)", "spread(list, 0, n, m)"),
+        "rate of 5,001 allowed": ("wide(rate) <= *::MOST_RATE", "wide(rate) <= 5_001"),
+        "losses read from the links": ("spread(list, n * m, n, m)", "spread(list, 0, n, m)"),
         "longer pair list allowed":
             ("pair_list.len() == 2 * (n * m)", "2 * (n * m) <= pair_list.len()"),
-        "16 consumers refused":
-            ("(m <= 16)", "(m <= 15)"),
+        "16 consumers refused": ("(m <= 16)", "(m <= 15)"),
     },
     "schedule": {
         "refusal 8 before 7":
             ("first(unlinked, 7, *::first(over, 8,", "first(over, 8, *::first(unlinked, 7,"),
-        "rank 0 allowed":
-            ("any_outside(ranks, 0, count, 1,", "any_outside(ranks, 0, count, 0,"),
-        "kW on unlinked pairs allowed":
-            ("(0 < kws[from + c])", "(400_000 < kws[from + c])"),
+        "rank 0 allowed": ("any_outside(ranks, 0, count, 1,", "any_outside(ranks, 0, count, 0,"),
+        "kW on unlinked pairs allowed": ("(0 < kws[from + c])", "(400_000 < kws[from + c])"),
         "kW stored as ranks":
             ("put_list(s, *::RANK, ranks, n, m)", "put_list(s, *::RANK, kws, n, m)"),
     },
     "block": {
-        "reading limit one low":
-            ("*::MOST_READING < ", "199_999_999 < "),
-        "reading limit one high":
-            ("*::MOST_READING < ", "200_000_001 < "),
+        "reading limit one low": ("*::MOST_READING < ", "199_999_999 < "),
+        "reading limit one high": ("*::MOST_READING < ", "200_000_001 < "),
         "refusal 12 before 11":
             ("MOST_UNIT_BLOCKS <= counts.blocks, 12, 0)",
              "MOST_MONTH_BLOCKS <= counts.month, 11, 0)",
              "MOST_MONTH_BLOCKS <= counts.month, 11, unit_full)",
              "MOST_UNIT_BLOCKS <= counts.blocks, 12, unit_full)"),
-        "month blocks not raised":
-            ("add_at(s, *::MONTH, 1);", "add_at(s, *::MONTH, 0);"),
+        "month blocks not raised": ("add_at(s, *::MONTH, 1);", "add_at(s, *::MONTH, 0);"),
         "metered by remainder":
             ("raise_readings(s, *::METERED, exit);",
              "raise_numbers(s, *::METERED, out, 4 * size + n, m);"),
@@ -100,51 +90,40 @@ FAULTS = {
              "    if scheduled.0 == 0 {\n        return entry;"),
         "scheduled at exit without loss":
             ("scheduled.0 - lost.0 - delivered", "scheduled.0 - delivered"),
-        "loss to the nearest":
-            ("rate + 9_999)", "rate + 5_000)"),
+        "loss to the nearest": ("rate + 9_999)", "rate + 5_000)"),
         "running shares rounded up":
             ("let share = k * sum / all;", "let share = (k * sum + all - 1) / all;"),
         "shortfall is what is not used of it":
             ("c, &taken, &has, &short, rest)", "c, &taken, &has, &gap, rest)"),
     },
     "closing": {
-        "open not reset":
-            ("*::clear_numbers(s, *::OUTSTANDING, m);", ""),
-        "pending not reset":
-            ("*::clear_numbers(s, *::PENDING, n);", ""),
+        "open not reset": ("*::clear_numbers(s, *::OUTSTANDING, m);", ""),
+        "pending not reset": ("*::clear_numbers(s, *::PENDING, n);", ""),
         "lapsed and bank swapped in the output":
             ("put8(out, lapsed_at, &lapsed, n);", "put8(out, lapsed_at, &balance, n);",
              "put8(out, bank_at, &balance, n);", "put8(out, bank_at, &lapsed, n);"),
         "open listed after the drawing":
             ("put16(out, open_at, &outstanding, m);", "put16(out, open_at, &supplied, m);"),
-        "longer output allowed":
-            ("size == n * m + 3 * n + 2 * m", "n * m + 3 * n + 2 * m <= size"),
+        "longer output allowed": ("size == n * m + 3 * n + 2 * m", "n * m + 3 * n + 2 * m <= size"),
         "charge not taken from the bank":
             ("balance[g] += pending[g] - due.0;", "balance[g] += pending[g];"),
         "all consumers draw what the first lacks":
             ("links, outstanding[c])", "links, outstanding[0])"),
-        "months gone not reset":
-            ("{ 0 } else { gone + 1 }", "{ gone } else { gone + 1 }"),
+        "months gone not reset": ("{ 0 } else { gone + 1 }", "{ gone } else { gone + 1 }"),
     },
     "sound": {
-        "month blocks over unit blocks allowed":
-            ("(n.month <= n.blocks)", "(n.month <= n.month)"),
-        "gone equal to the cycle allowed":
-            ("(n.gone < t.cycle)", "(n.gone <= t.cycle)"),
+        "month blocks over unit blocks allowed": ("(n.month <= n.blocks)", "(n.month <= n.month)"),
+        "gone equal to the cycle allowed": ("(n.gone < t.cycle)", "(n.gone <= t.cycle)"),
         "full month refused":
             ("(n.month <= *::MOST_MONTH_BLOCKS)", "(n.month < *::MOST_MONTH_BLOCKS)"),
         "full unit refused":
             ("MOST_UNIT_BLOCKS: u64 = 10_000_000", "MOST_UNIT_BLOCKS: u64 = 9_999_999"),
-        "totals by age one low":
-            ("(x.injected <= most)", "(x.injected <= most - blocks)"),
-        "totals by age one high":
-            ("(x.injected <= most)", "(x.injected <= most + 1)"),
+        "totals by age one low": ("(x.injected <= most)", "(x.injected <= most - blocks)"),
+        "totals by age one high": ("(x.injected <= most)", "(x.injected <= most + 1)"),
         "kW on an unlinked pair allowed":
             ("((link == 1) | (kw == 0))", "((link <= 1) | (kw == 0))"),
-        "rank 256 allowed":
-            ("MOST_RANK: u64 = 255", "MOST_RANK: u64 = 256"),
-        "supplied counted for open":
-            ("+ capped(x.outstanding)", "+ capped(x.supplied)"),
+        "rank 256 allowed": ("MOST_RANK: u64 = 255", "MOST_RANK: u64 = 256"),
+        "supplied counted for open": ("+ capped(x.outstanding)", "+ capped(x.supplied)"),
         "totals beyond G allowed":
             ("generator_sound(blocks, g < n, ", "generator_sound(blocks, g < 8, "),
         "pairs beyond C allowed":
@@ -158,13 +137,11 @@ FAULTS = {
              "s[b] = (w1 % 256) as u8;\n    s[b + 1] = (w % 256) as u8;"),
         "seventh byte not written":
             ("s[b + 6] = (w6 % 256) as u8;", "s[b + 6] = (w7 % 256) as u8;"),
-        "eighth byte not read":
-            ("(b7 as u64) * 72_057_594_037_927_936", "(b7 as u64) * 0"),
+        "eighth byte not read": ("(b7 as u64) * 72_057_594_037_927_936", "(b7 as u64) * 0"),
         "link and loss swapped when stored":
             ("store128(link, s, *::LINK);", "store128(link, s, *::LOSS);",
              "store128(loss, s, *::LOSS);", "store128(loss, s, *::LINK);"),
-        "months gone written one place late":
-            ("GONE: usize = 4;", "GONE: usize = 5;"),
+        "months gone written one place late": ("GONE: usize = 4;", "GONE: usize = 5;"),
         "contracted loaded as installed":
             ("let installed = *::column(rows, 1);", "let installed = *::column(rows, 2);"),
         "bank loaded from pending":
@@ -173,14 +150,10 @@ FAULTS = {
             ("store16(supplied, s, *::SUPPLIED);", "store16(supplied, s, *::SUPPLIED - 1);"),
     },
     "reader: sizes, names": {
-        "G = 9 allowed":
-            ("if 8 < g {", "if 9 < g {"),
-        "G = 8 refused":
-            ("if 8 < g {", "if 7 < g {"),
-        "C = 0 allowed":
-            ("if c < 1 {", "if c < 0 {"),
-        "C = 17 allowed":
-            ("c <= 16", "c <= 17"),
+        "G = 9 allowed": ("if 8 < g {", "if 9 < g {"),
+        "G = 8 refused": ("if 8 < g {", "if 7 < g {"),
+        "C = 0 allowed": ("if c < 1 {", "if c < 0 {"),
+        "C = 17 allowed": ("c <= 16", "c <= 17"),
         "lowest byte of G looked at":
             ("    if g < 1 {", "    let g = g % 256;\n    if g < 1 {",
              "put_names(g as usize,", "put_names((g % 256) as usize,",
@@ -189,29 +162,21 @@ FAULTS = {
             ("while i < line.len() {", "while i + 1 < line.len() {"),
         "names line compared beyond the text":
             ("if text.len() < line.len() {", "if text.len() + 1 < line.len() {"),
-        "numbers of consumers go on from the generators'":
-            ("(j - g + 1) as u64", "(j + 1) as u64"),
-        "name of the tenth consumer in one digit":
-            ("if n < 10 {", "if n <= 10 {"),
+        "numbers of consumers go on from the generators'": ("(j - g + 1) as u64", "(j + 1) as u64"),
+        "name of the tenth consumer in one digit": ("if n < 10 {", "if n <= 10 {"),
     },
     "reader: values, lines": {
-        "highest value refused":
-            ("m <= 4_294_967_295 {", "m < 4_294_967_295 {"),
-        "values by 2^32":
-            ("if m <= 4_294_967_295 {", "if n <= 4_294_967_295 {"),
-        "values up to 2^33":
-            ("m <= 4_294_967_295 {", "m <= 8_589_934_591 {"),
-        "byte after 9 taken for a digit":
-            ("b <= b'9'", "b <= b':'"),
-        "byte before 0 taken for a digit":
-            ("if b < b'0' {", "if b < b'/' {"),
+        "highest value refused": ("m <= 4_294_967_295 {", "m < 4_294_967_295 {"),
+        "values by 2^32": ("if m <= 4_294_967_295 {", "if n <= 4_294_967_295 {"),
+        "values up to 2^33": ("m <= 4_294_967_295 {", "m <= 8_589_934_591 {"),
+        "byte after 9 taken for a digit": ("b <= b'9'", "b <= b':'"),
+        "byte before 0 taken for a digit": ("if b < b'0' {", "if b < b'/' {"),
         "empty value read as 0":
             ("fn first_byte(b: u8) ", "fn first_byte(b: u8, sep: u8) ",
              "firstByte b ⌝ }\n{",
              "firstByte b ⌝ }\n{\n    if b == sep {\n        return Progress::Start;\n    }",
              "=> first_byte(b),", "=> first_byte(b, sep),"),
-        "comma and line feed alike":
-            ("if b == sep {", "if (b == b',') | (b == b'\\n') {"),
+        "comma and line feed alike": ("if b == sep {", "if (b == b',') | (b == b'\\n') {"),
         "semicolon for a comma allowed":
             ("if b == sep {", "if (b == sep) | ((b == b';') & (sep == b',')) {"),
         "carriage return passed over":
@@ -221,19 +186,15 @@ FAULTS = {
              "valuesEnded b ⌝ }\n{\n    if b == 13 {\n        return 0;\n    }"),
         "no last line feed allowed":
             ("Progress::Digits(_) => false", "Progress::Digits(_) => k % w == w - 1"),
-        "last line with too few values allowed":
-            ("k % w == 0", "k % w <= w"),
+        "last line with too few values allowed": ("k % w == 0", "k % w <= w"),
         "lines past 64 KiB not tested":
             ("    while i < s.len() {\n        let b = s[i];\n        let sep",
              "    while (i < s.len()) & (i < 65_536) {\n        let b = s[i];\n        let sep"),
-        "line count in 16 bits":
-            ("Read::Lines(lines)", "Read::Lines(lines % 65_536)"),
+        "line count in 16 bits": ("Read::Lines(lines)", "Read::Lines(lines % 65_536)"),
     },
     "reader: output, order": {
-        "room one low":
-            ("out.len() < k", "out.len() < k + 1"),
-        "room one high":
-            ("out.len() < k", "out.len() + 1 < k"),
+        "room one low": ("out.len() < k", "out.len() < k + 1"),
+        "room one high": ("out.len() < k", "out.len() + 1 < k"),
         "last place of a full output left":
             ("if !table_scan::is_digit(b) {",
              "if !table_scan::is_digit(b) & (k + 1 < out.len()) {"),
