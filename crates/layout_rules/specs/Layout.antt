@@ -155,6 +155,10 @@ pub record Laid (from to : ℕ) (ws s t : List ℕ) : Type 0 where
   pub put : Put 8 from to ws s t
   pub size : length t ≡ 5752
 
+-- a run of so many numbers
+pub laid-run : {at n : ℕ} {ws s t : List ℕ} → length ws ≡ n → Laid at (at + length ws) ws s t → Laid at (at + n) ws s t
+laid-run e p = rw e at p
+
 pub laid-then : {from mid to : ℕ} {xs ys s t u : List ℕ} → Laid from mid xs s t → Laid mid to ys t u → Laid from to (xs ++ ys) s u
 laid-then p q = record { put = put-then (p .put) (q .put); size = q .size }
 

@@ -2,91 +2,111 @@
 use native.Mathlib.Omega.{arith}
 use borrow.Author.Needs.{needs}
 use Rattle.lists.specs.Pairs.{joined}
-use Rattle.layout_rules.specs.Layout.{laid-then, laid-last}
+use Rattle.layout_rules.specs.Layout.{laid-run, laid-then, laid-last}
 use Rattle.storing.proofs.store_generators.Statement.{statement}
 use Rattle.storing.proofs.store_generators.Tie as tie
 
-store8-requires : tie.Need-store8-requires
-store8-requires c κs = search needs
+store-run-requires : tie.Need-store-run-requires
+store-run-requires c κs = search needs
 
-store8-requires-2 : tie.Need-store8-requires-2
-store8-requires-2 c κs = search needs
+store-run-requires-2 : tie.Need-store-run-requires-2
+store-run-requires-2 c κs = search needs
 
-store8-requires-3 : tie.Need-store8-requires-3
-store8-requires-3 c κs = search needs
+store-run-requires-3 : tie.Need-store-run-requires-3
+store-run-requires-3 c κs = search needs
 
-store8-requires-4 : tie.Need-store8-requires-4
-store8-requires-4 c κs = search needs
+store-run-requires-4 : tie.Need-store-run-requires-4
+store-run-requires-4 c κs = search needs
 
-store8-requires-5 : tie.Need-store8-requires-5
-store8-requires-5 c κs = search needs
+store-run-requires-5 : tie.Need-store-run-requires-5
+store-run-requires-5 c κs = search needs
 
-store8-requires-6 : tie.Need-store8-requires-6
-store8-requires-6 c κs = search needs
+store-run-requires-6 : tie.Need-store-run-requires-6
+store-run-requires-6 c κs = search needs
 
-store8-requires-7 : tie.Need-store8-requires-7
-store8-requires-7 c κs = search needs
+store-run-requires-7 : tie.Need-store-run-requires-7
+store-run-requires-7 c κs = search needs
 
-store8-requires-8 : tie.Need-store8-requires-8
-store8-requires-8 c κs = search needs
+store-run-requires-8 : tie.Need-store-run-requires-8
+store-run-requires-8 c κs = search needs
 
-store8-requires-9 : tie.Need-store8-requires-9
-store8-requires-9 c κs = search needs
+store-run-requires-9 : tie.Need-store-run-requires-9
+store-run-requires-9 c κs = search needs
 
-store8-requires-10 : tie.Need-store8-requires-10
-store8-requires-10 c κs = search needs
+store-run-requires-10 : tie.Need-store-run-requires-10
+store-run-requires-10 c κs = search needs
 
 same-length : tie.Need-same-length
 same-length c =
     let c10 = c .before .before in
-    let c9 = c10 .before .before .before .before .before in
-    let c8 = c9 .before .before .before .before .before in
-    let c7 = c8 .before .before .before .before .before in
-    let c6 = c7 .before .before .before .before .before in
-    let c5 = c6 .before .before .before .before .before in
-    let c4 = c5 .before .before .before .before .before in
-    let c3 = c4 .before .before .before .before .before in
-    let c2 = c3 .before .before .before .before .before in
-    let c1 = c2 .before .before .before .before .before in
-    omega (arith, c10 .store810 .ensures .size, c1 .before .before .before .before .pre)
+    let a10 = c10 .before .before in
+    let c9 = a10 .before .before .before .before .before in
+    let a9 = c9 .before .before in
+    let c8 = a9 .before .before .before .before .before in
+    let a8 = c8 .before .before in
+    let c7 = a8 .before .before .before .before .before in
+    let a7 = c7 .before .before in
+    let c6 = a7 .before .before .before .before .before in
+    let a6 = c6 .before .before in
+    let c5 = a6 .before .before .before .before .before in
+    let a5 = c5 .before .before in
+    let c4 = a5 .before .before .before .before .before in
+    let a4 = c4 .before .before in
+    let c3 = a4 .before .before .before .before .before in
+    let a3 = c3 .before .before in
+    let c2 = a3 .before .before .before .before .before in
+    let a2 = c2 .before .before in
+    let c1 = a2 .before .before .before .before .before in
+    let a1 = c1 .before .before in
+    omega (arith, c10 .store-run10 .ensures .size, a1 .before .before .before .before .pre)
 
 returns : tie.Need-returns
 unfolding joined
 returns c =
     let c10 = c .before .before in
-    let c9 = c10 .before .before .before .before .before in
-    let c8 = c9 .before .before .before .before .before in
-    let c7 = c8 .before .before .before .before .before in
-    let c6 = c7 .before .before .before .before .before in
-    let c5 = c6 .before .before .before .before .before in
-    let c4 = c5 .before .before .before .before .before in
-    let c3 = c4 .before .before .before .before .before in
-    let c2 = c3 .before .before .before .before .before in
-    let c1 = c2 .before .before .before .before .before in
-    laid-then (c1 .store8 .ensures)
-    (laid-then (c2 .store82 .ensures)
-    (laid-then (c3 .store83 .ensures)
-    (laid-then (c4 .store84 .ensures)
-    (laid-then (c5 .store85 .ensures)
-    (laid-then (c6 .store86 .ensures)
-    (laid-then (c7 .store87 .ensures)
-    (laid-then (c8 .store88 .ensures)
-    (laid-then (c9 .store89 .ensures)
-    (laid-last (c10 .store810 .ensures))))))))))
+    let a10 = c10 .before .before in
+    let c9 = a10 .before .before .before .before .before in
+    let a9 = c9 .before .before in
+    let c8 = a9 .before .before .before .before .before in
+    let a8 = c8 .before .before in
+    let c7 = a8 .before .before .before .before .before in
+    let a7 = c7 .before .before in
+    let c6 = a7 .before .before .before .before .before in
+    let a6 = c6 .before .before in
+    let c5 = a6 .before .before .before .before .before in
+    let a5 = c5 .before .before in
+    let c4 = a5 .before .before .before .before .before in
+    let a4 = c4 .before .before in
+    let c3 = a4 .before .before .before .before .before in
+    let a3 = c3 .before .before in
+    let c2 = a3 .before .before .before .before .before in
+    let a2 = c2 .before .before in
+    let c1 = a2 .before .before .before .before .before in
+    let a1 = c1 .before .before in
+    laid-then (laid-run (a1 .store-run-arg2 .given .0) (c1 .store-run .ensures))
+    (laid-then (laid-run (a2 .store-run-arg5 .given .0) (c2 .store-run2 .ensures))
+    (laid-then (laid-run (a3 .store-run-arg8 .given .0) (c3 .store-run3 .ensures))
+    (laid-then (laid-run (a4 .store-run-arg11 .given .0) (c4 .store-run4 .ensures))
+    (laid-then (laid-run (a5 .store-run-arg14 .given .0) (c5 .store-run5 .ensures))
+    (laid-then (laid-run (a6 .store-run-arg17 .given .0) (c6 .store-run6 .ensures))
+    (laid-then (laid-run (a7 .store-run-arg20 .given .0) (c7 .store-run7 .ensures))
+    (laid-then (laid-run (a8 .store-run-arg23 .given .0) (c8 .store-run8 .ensures))
+    (laid-then (laid-run (a9 .store-run-arg26 .given .0) (c9 .store-run9 .ensures))
+    (laid-last (laid-run (a10 .store-run-arg29 .given .0) (c10 .store-run10 .ensures)))))))))))
 
 pub store-generators-spec : {M : Type 1} → statement M
 store-generators-spec =
     tie.close
     (tie.spec
-    store8-requires
-    store8-requires-2
-    store8-requires-3
-    store8-requires-4
-    store8-requires-5
-    store8-requires-6
-    store8-requires-7
-    store8-requires-8
-    store8-requires-9
-    store8-requires-10
+    store-run-requires
+    store-run-requires-2
+    store-run-requires-3
+    store-run-requires-4
+    store-run-requires-5
+    store-run-requires-6
+    store-run-requires-7
+    store-run-requires-8
+    store-run-requires-9
+    store-run-requires-10
     same-length
     returns)

@@ -1,15 +1,15 @@
 -- `storing::store_schedule` meets its contract: the runs are put one after the other. Assumes nothing.
 use borrow.Author.Needs.{needs}
 use Rattle.lists.specs.Pairs.{joined}
-use Rattle.layout_rules.specs.Layout.{laid-then, laid-last}
+use Rattle.layout_rules.specs.Layout.{laid-run, laid-then, laid-last}
 use Rattle.storing.proofs.store_schedule.Statement.{statement}
 use Rattle.storing.proofs.store_schedule.Tie as tie
 
-store128-requires : tie.Need-store128-requires
-store128-requires c κs = search needs
+store-run-requires : tie.Need-store-run-requires
+store-run-requires c κs = search needs
 
-store128-requires-2 : tie.Need-store128-requires-2
-store128-requires-2 c κs = search needs
+store-run-requires-2 : tie.Need-store-run-requires-2
+store-run-requires-2 c κs = search needs
 
 same-length : tie.Need-same-length
 same-length c = search needs
@@ -18,10 +18,17 @@ returns : tie.Need-returns
 unfolding joined
 returns c =
     let c2 = c .before .before in
-    let c1 = c2 .before .before .before .before .before in
-    laid-then (c1 .store128 .ensures)
-    (laid-last (c2 .store1282 .ensures))
+    let a2 = c2 .before .before in
+    let c1 = a2 .before .before .before .before .before in
+    let a1 = c1 .before .before in
+    laid-then (laid-run (a1 .store-run-arg2 .given .0) (c1 .store-run .ensures))
+    (laid-last (laid-run (a2 .store-run-arg5 .given .0) (c2 .store-run2 .ensures)))
 
 pub store-schedule-spec : {M : Type 1} → statement M
 store-schedule-spec =
-    tie.close (tie.spec store128-requires store128-requires-2 same-length returns)
+    tie.close
+    (tie.spec
+    store-run-requires
+    store-run-requires-2
+    same-length
+    returns)
