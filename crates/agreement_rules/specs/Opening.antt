@@ -86,8 +86,8 @@ module _ (o : Opening) where
         rate = o .rate;
         cycle = o .cycle;
         gone = o .gone;
-        blocks = 0;
-        month = 0;
+        unitblocks = 0;
+        monthblocks = 0;
         gen = λ g. noInjection;
         con = λ c. noConsumption;
       }

@@ -55,8 +55,8 @@ module _ (kws ranks : List ℕ) (b : Book) where
         rate = b .rate;
         cycle = b .cycle;
         gone = b .gone;
-        blocks = b .blocks;
-        month = b .month;
+        unitblocks = b .unitblocks;
+        monthblocks = b .monthblocks;
         gen = b .gen;
         con = b .con;
       }

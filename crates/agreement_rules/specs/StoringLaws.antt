@@ -42,7 +42,7 @@ first-schedule n m h k q = λ i. record { kw = zeros128 i; rank = (q ∙ ap (pai
 pub zero-parts : {x : Generators} {y : Consumers} → x ≡ storedGenerators (λ g. noInjection) → y ≡ storedConsumers (λ c. noConsumption) →
     record {
       terms = record { generators = 0; consumers = 0; rate = 0; cycle = 0 };
-      counts = record { gone = 0; blocks = 0; month = 0 };
+      counts = record { gone = 0; unitblocks = 0; monthblocks = 0 };
       agreed = record { kind = replicate 8 0; installed = replicate 8 0; contracted = replicate 8 0 };
       links = record { link = replicate 128 0; loss = replicate 128 0 };
       schedule = record { kw = replicate 128 0; rank = replicate 128 0 };
@@ -53,7 +53,7 @@ unfolding zeros stored
 zero-parts x y =
     λ i. record {
       terms = record { generators = 0; consumers = 0; rate = 0; cycle = 0 };
-      counts = record { gone = 0; blocks = 0; month = 0 };
+      counts = record { gone = 0; unitblocks = 0; monthblocks = 0 };
       agreed = record { kind = zeros8 i; installed = zeros8 i; contracted = zeros8 i };
       links = record { link = zeros128 i; loss = zeros128 i };
       schedule = record { kw = zeros128 i; rank = zeros128 i };
@@ -66,7 +66,7 @@ module _ (G C rate cycle gone : ℕ) (generators pairs : List ℕ) where
       a ≡ agreedFrom G generators → l ≡ linksFrom G C pairs → s ≡ firstSchedule G C → x ≡ storedGenerators (λ g. noInjection) → y ≡ storedConsumers (λ c. noConsumption) →
       record {
         terms = record { generators = G; consumers = C; rate = rate′; cycle = cycle′ };
-        counts = record { gone = gone′; blocks = 0; month = 0 };
+        counts = record { gone = gone′; unitblocks = 0; monthblocks = 0 };
         agreed = a;
         links = l;
         schedule = s;
@@ -77,7 +77,7 @@ module _ (G C rate cycle gone : ℕ) (generators pairs : List ℕ) where
   opened-parts r t o a l s x y =
       λ i. record {
         terms = record { generators = G; consumers = C; rate = r i; cycle = t i };
-        counts = record { gone = o i; blocks = 0; month = 0 };
+        counts = record { gone = o i; unitblocks = 0; monthblocks = 0 };
         agreed = a i;
         links = l i;
         schedule = s i;

@@ -4,11 +4,11 @@ use mathlib.Core.Path.{_≡_, refl, sym, ap, _∙_}
 use mathlib.Core.List.{List}
 use native.Mathlib.Omega.{arith}
 use lib.ListN.{length}
-use Rattle.codec.specs.Bytes.{encode, decode}
+use Rattle.codec.specs.Bytes.{encode}
 use Rattle.delivery_rules.specs.DeliveredIn.{DeliveredIn}
 use Rattle.settlement_rules.specs.Settlement.{blockOutput}
 use Rattle.settlement_rules.specs.Places.{output-back}
-use Rattle.record.specs.Words.{words, recordOf}
+use Rattle.record.specs.Words.{words}
 use Rattle.record.specs.Stored.{planOf, figures, stored}
 use Rattle.record.specs.Called.{numberOn}
 use Rattle.record.specs.declared.Terms.{Terms}
@@ -22,7 +22,7 @@ use Rattle.block_delivery.specs.Lent.{entriesIn, Ready}
 use Rattle.block_settlement.specs.Bytes.{exitsIn, Ranked}
 use Rattle.block_totals.specs.Totals.{Settled}
 
-module _ (s entry exit : List ℕ) (size : ℕ) {terms : Terms} {counts : Counts} (head : HeadRead s terms counts) (z : numberOn (blockRule entry exit size) (recordOf (decode 8 719 s)) ≡ 0) where
+module _ (s entry exit : List ℕ) (size : ℕ) {terms : Terms} {counts : Counts} (head : HeadRead s terms counts) (z : numberOn (blockRule entry exit size) (recordIn s) ≡ 0) where
   abbrev n : ℕ
   n = terms .generators
 
@@ -84,12 +84,11 @@ module _ (s entry exit : List ℕ) (size : ℕ) {terms : Terms} {counts : Counts
 -- ---- the call
 
 module _ (s entry exit lent : List ℕ) where
-  pub block-accepted : {s′ out : List ℕ} → numberOn (blockRule entry exit (length lent)) (recordOf (decode 8 719 s)) ≡ 0 →
+  pub block-accepted : {s′ out : List ℕ} → numberOn (blockRule entry exit (length lent)) (recordIn s) ≡ 0 →
       s′ ≡ encode 8 (words (stored (afterBlock (bookIn s) (entryOf entry exit (bookIn s)) (exitOf entry exit (bookIn s))))) →
       out ≡ blockOutput (planIn s) (entriesIn s entry) (exitsIn s exit) → CalledOn (blockRule entry exit (length lent)) s lent 0 s′ out
-  unfolding recordIn blockRule entryOf exitOf figures
+  unfolding blockRule entryOf exitOf figures
   block-accepted z e o = on-accepted _ s lent refl z e o
 
-  pub block-refused : {n : ℕ} → n ≡ numberOn (blockRule entry exit (length lent)) (recordOf (decode 8 719 s)) → (n ≡ 0 → ⊥) → CalledOn (blockRule entry exit (length lent)) s lent n s lent
-  unfolding recordIn
+  pub block-refused : {n : ℕ} → n ≡ numberOn (blockRule entry exit (length lent)) (recordIn s) → (n ≡ 0 → ⊥) → CalledOn (blockRule entry exit (length lent)) s lent n s lent
   block-refused e not-0 = on-refused _ s lent e not-0

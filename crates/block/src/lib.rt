@@ -2,12 +2,11 @@
 // A function with a `requires` is called by this repository's crates only, and they meet it.
 ghost use mathlib.Core.Path.{_≡_};
 ghost use lib.ListN.{length};
-ghost use Rattle.codec.specs.Bytes.{decode};
 ghost use Rattle.record.specs.Called.{numberOn};
-ghost use Rattle.record.specs.Words.{recordOf};
-ghost use Rattle.layout_rules.specs.OnBytes.{CalledOn};
+ghost use Rattle.layout_rules.specs.OnBytes.{CalledOn, recordIn};
 ghost use Rattle.layout_rules.specs.Head.{HeadRead};
 ghost use Rattle.block_rules.specs.Block.{blockRule, Blocked};
+ghost use Rattle.record_places.specs.RecordSize.{recordBytes};
 use record::Answer;
 use record::Counts;
 use record::Record;
@@ -23,7 +22,7 @@ fn refusal_on(
     size: usize,
 ) -> u32
     requires { ⌜ HeadRead (now s) terms counts ⌝ }
-    ensures { λ x. ⌜ x ≡ numberOn (blockRule (now (entry .entry)) (now (exit .entry)) size) (recordOf (decode 8 719 (now (s .entry)))) ⌝ }
+    ensures { λ x. ⌜ x ≡ numberOn (blockRule (now (entry .entry)) (now (exit .entry)) size) (recordIn (now (s .entry))) ⌝ }
 {
     if soundness::is_sound(s, terms, counts) {
         let n = terms.generators as usize;
@@ -37,7 +36,7 @@ fn refusal_on(
 // One block on the record that the bytes hold. The lists are made in the slice of the output, and the totals are raised in the bytes: nothing
 // is copied on the way.
 pub fn block_on(s: &mut [u8], entry: &[u32], exit: &[u32], out: &mut [u64]) -> u32
-    requires { ⌜ length (now s) ≡ 5752 ⌝ }
+    requires { ⌜ length (now s) ≡ recordBytes ⌝ }
     ensures { λ r. ⌜ CalledOn (blockRule (now (entry .entry)) (now (exit .entry)) (length (now (out .entry)))) (now (s .entry)) (now (out .entry)) r (now (s .exit)) (now (out .exit)) ⌝ }
 {
     let terms = loading::load_terms(s);
@@ -58,7 +57,7 @@ pub fn block_on(s: &mut [u8], entry: &[u32], exit: &[u32], out: &mut [u64]) -> u
 pub fn block(r: Record, entry: &[u32], exit: &[u32], out: &mut [u64]) -> Answer
     ensures { λ a. ⌜ Blocked r (now (entry .entry)) (now (exit .entry)) (now (out .entry)) a (now (out .exit)) ⌝ }
 {
-    let mut s = [0u8; 5752];
+    let mut s = [0u8; record_places::RECORD_BYTES];
     storing::store(r, &mut s);
     let number = block_on(&mut s, entry, exit, out);
     let after = loading::load(&s);

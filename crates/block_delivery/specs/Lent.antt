@@ -6,12 +6,13 @@ use lib.ListN.{length}
 use Rattle.lists.specs.Pairs.{place}
 use Rattle.delivery_rules.specs.Deliverable.{Deliverable}
 use Rattle.layout_rules.specs.OnBytes.{planIn}
+use Rattle.record_places.specs.RecordSize.{recordBytes}
 
 abbrev pub entriesIn : List ℕ → List ℕ → ℕ → ℕ
 entriesIn s entry = place (planIn s .G) entry
 
 pub record Ready (s : List ℕ) (n m : ℕ) (entry : List ℕ) : Type 0 where
-  pub whole : length s ≡ 5752
+  pub whole : length s ≡ recordBytes
   pub n-is : n ≡ planIn s .G
   pub m-is : m ≡ planIn s .C
   pub readings : length entry ≡ n

@@ -11,10 +11,11 @@ use Rattle.delivery_rules.specs.Plan.{Plan, scheduled}
 use Rattle.delivery_rules.specs.Delivery.{partOf}
 use Rattle.block_pair.specs.OnePair.{PairReady}
 use Rattle.layout_rules.specs.OnBytes.{planIn}
+use Rattle.record_places.specs.RecordSize.{recordBytes}
 
 -- what rule 1 asks of it: its kW, added up
 pub record CountReady (s : List ℕ) (g : ℕ) (row : List ℕ) : Type 0 where
-  pub whole : length s ≡ 5752
+  pub whole : length s ≡ recordBytes
   pub g-high : g < mostGenerators
   pub scheduled-is : sum 16 (place 16 row) ≡ scheduled (planIn s) g
   pub scheduled-high : sum 16 (place 16 row) ≤ mostCapacity
@@ -27,7 +28,7 @@ pub record RowOf (p : Plan) (g e kind : ℕ) (row parts : List ℕ) : Type 0 whe
 
 -- what rules 3 and 4 ask of it
 pub record RowReady (s : List ℕ) (n m g kind : ℕ) (row parts out : List ℕ) : Type 0 where
-  pub whole : length s ≡ 5752
+  pub whole : length s ≡ recordBytes
   pub one-of-n : g < n
   pub n-high : n ≤ mostGenerators
   pub m-high : m ≤ mostConsumers

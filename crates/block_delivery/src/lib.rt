@@ -12,13 +12,14 @@ ghost use Rattle.layout_rules.specs.OnBytes.{planIn};
 ghost use Rattle.block_delivery.specs.Lent.{entriesIn, Ready};
 ghost use Rattle.block_delivery.specs.Rows.{CountReady, RowReady, RowOf};
 ghost use Rattle.block_delivery.specs.Filling.{Filled};
+ghost use Rattle.record_places.specs.RecordSize.{recordBytes};
 
 // The kW of generator g.
 fn kw_row(s: &[u8], g: usize) -> [u32; 16]
-    requires { ⌜ (length (now s) ≡ 5752) × ((g < 8) × ((c : ℕ) → planIn (now s) .kw g c ≤ mostCapacity)) ⌝ }
+    requires { ⌜ (length (now s) ≡ recordBytes) × ((g < 8) × ((c : ℕ) → planIn (now s) .kw g c ≤ mostCapacity)) ⌝ }
     ensures { λ r. ⌜ r ≡ table 16 (planIn (now (s .entry)) .kw g) ⌝ }
 {
-    let from = layout_rules::KW + g * 16;
+    let from = record_places::KW + g * 16;
     let mut row = [0u32; 16];
     let mut c: usize = 0;
     while c < 16 {
@@ -30,7 +31,7 @@ fn kw_row(s: &[u8], g: usize) -> [u32; 16]
 
 // The schedule as rows for the share step; the rows from n on stay the zeros that they are made with.
 fn kw_rows(s: &[u8], n: usize) -> [[u32; 16]; 8]
-    requires { ⌜ (length (now s) ≡ 5752) × ((n ≤ 8) × ((g c : ℕ) → planIn (now s) .kw g c ≤ mostCapacity)) ⌝ }
+    requires { ⌜ (length (now s) ≡ recordBytes) × ((n ≤ 8) × ((g c : ℕ) → planIn (now s) .kw g c ≤ mostCapacity)) ⌝ }
     ensures { λ r. ⌜ ((g : ℕ) → g < n → getD r g [] ≡ table 16 (planIn (now (s .entry)) .kw g)) ⌝ }
 {
     let mut rows = [[0u32; 16]; 8];
@@ -47,7 +48,7 @@ fn counted_at(s: &[u8], g: usize, row: [u32; 16], reading: u32) -> u32
     requires { ⌜ CountReady (now s) g row ⌝ }
     ensures { λ r. ⌜ r ≡ counted (planIn (now (s .entry))) g reading ⌝ }
 {
-    let kind = in_place::number_at(s, layout_rules::AGREED + g * 3);
+    let kind = in_place::number_at(s, record_places::AGREED + g * 3);
     let scheduled = block_counting::scheduled_kw(row);
     block_counting::counted(kind, scheduled, reading)
 }
@@ -68,7 +69,7 @@ fn deliver_row(
     ensures { λ _. ⌜ ((E : ℕ → ℕ) → RowOf (planIn (now (s .entry))) g (E g) kind (now (row .entry)) (now (parts .entry)) → Filled (planIn (now (s .entry))) E n m (g * m) g (now (out .entry)) → Filled (planIn (now (s .entry))) E n m ((g + 1) * m) g (now (out .exit))) ⌝ }
 {
     let size = n * m;
-    let from = layout_rules::LOSS + g * 16;
+    let from = record_places::LOSS + g * 16;
     let mut c: usize = 0;
     while c < m {
         let at = g * m + c;
@@ -97,7 +98,7 @@ fn deliver_one(
     let reading = entry[g];
     let counts = counted_at(s, g, row, reading);
     let parts = sharing::share(counts, row);
-    let kind = in_place::number_at(s, layout_rules::AGREED + g * 3);
+    let kind = in_place::number_at(s, record_places::AGREED + g * 3);
     deliver_row(s, n, m, g, kind, &row, &parts, out);
     columns::put_number_at(out, 4 * (n * m), n, g, lists::wide(reading - counts));
 }

@@ -23,12 +23,16 @@ fn any_over(readings: &[u32]) -> bool
 // the length that is read.
 pub fn refusal(n: usize, m: usize, counts: Counts, entry: &[u32], exit: &[u32], size: usize) -> u32
     requires { ⌜ (n ≤ 8) × (m ≤ 16) ⌝ }
-    ensures { λ r. ⌜ r ≡ blockNumber (now (entry .entry)) (now (exit .entry)) n m (counts .month) (counts .blocks) size ⌝ }
+    ensures { λ r. ⌜ r ≡ blockNumber (now (entry .entry)) (now (exit .entry)) n m (counts .monthblocks) (counts .unitblocks) size ⌝ }
 {
     if (entry.len() == n) & (exit.len() == m) & (size == 4 * (n * m) + n + m) {
         let over = any_over(entry) | any_over(exit);
-        let unit_full = lists::first(record::MOST_UNIT_BLOCKS <= counts.blocks, 12, 0);
-        let month_full = lists::first(record::MOST_MONTH_BLOCKS <= counts.month, 11, unit_full);
+        let unit_full = lists::first(record::MOST_UNIT_BLOCKS <= counts.unitblocks, 12, 0);
+        let month_full = lists::first(
+            record::MOST_MONTH_BLOCKS <= counts.monthblocks,
+            11,
+            unit_full,
+        );
         lists::first(over, 10, month_full)
     } else {
         2

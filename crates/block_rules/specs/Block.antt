@@ -62,8 +62,8 @@ module _ (b : Book) (E R : ℕ → ℕ) where
         rate = b .rate;
         cycle = b .cycle;
         gone = b .gone;
-        blocks = b .blocks + 1;
-        month = b .month + 1;
+        unitblocks = b .unitblocks + 1;
+        monthblocks = b .monthblocks + 1;
         gen = generatorAfterBlock;
         con = consumerAfterBlock;
       }
@@ -92,7 +92,7 @@ module _ (entry exit : List ℕ) where
       [])
 
   unfoldable pub blockRefusal : ℕ → Book → ℕ
-  blockRefusal size b = blockNumber (b .plan .G) (b .plan .C) (b .month) (b .blocks) size
+  blockRefusal size b = blockNumber (b .plan .G) (b .plan .C) (b .monthblocks) (b .unitblocks) size
 
   unfoldable pub blockRule : ℕ → Rule
   blockRule size =

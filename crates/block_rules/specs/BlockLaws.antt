@@ -29,8 +29,8 @@ pub record Enterable (entry exit : List ℕ) (size : ℕ) (b : Book) : Type 0 wh
   pub output-size : size ≡ blockLength (b .plan .G) (b .plan .C)
   pub entry-most : (g : ℕ) → entryOf entry exit b g ≤ mostReading
   pub exit-most : (c : ℕ) → exitOf entry exit b c ≤ mostReading
-  pub month : b .month < mostMonthBlocks
-  pub blocks : b .blocks < mostUnitBlocks
+  pub monthblocks : b .monthblocks < mostMonthBlocks
+  pub unitblocks : b .unitblocks < mostUnitBlocks
 
 -- a length other than stated is refusal 2
 pub block-sized : (entry exit : List ℕ) (size : ℕ) (b : Book) →
@@ -79,8 +79,8 @@ module _ (entry exit : List ℕ) (b : Book) where
         output-size = eqb-true _ _ (s 2);
         entry-most = λ g. entries g (ltb g (p .G)) refl ten;
         exit-most = λ c. exits c (ltb c (p .C)) refl ten;
-        month = leb-false mostMonthBlocks (b .month) (first-head 10 _ _ e₂);
-        blocks = leb-false mostUnitBlocks (b .blocks) (first-head 11 _ _ e₃);
+        monthblocks = leb-false mostMonthBlocks (b .monthblocks) (first-head 10 _ _ e₂);
+        unitblocks = leb-false mostUnitBlocks (b .unitblocks) (first-head 11 _ _ e₃);
       }
     where
       entries : (g : ℕ) (t : Bool) → ltb g (b .plan .G) ≡ t → some (b .plan .G) overEntry || some (b .plan .C) overExit ≡ false → entryOf entry exit b g ≤ mostReading
@@ -97,7 +97,7 @@ either-place true x = omega arith
 either-place false x = omega arith
 
 module _ (entry exit : List ℕ) (size : ℕ) (b : Book) (f : Facts b) (ok : Enterable entry exit size b) where
-  generator : (g : ℕ) → GeneratorFacts (b .blocks + 1) (ltb g (b .plan .G)) (generatorAfterBlock b (entryOf entry exit b) (exitOf entry exit b) g)
+  generator : (g : ℕ) → GeneratorFacts (b .unitblocks + 1) (ltb g (b .plan .G)) (generatorAfterBlock b (entryOf entry exit b) (exitOf entry exit b) g)
   unfolding generatorAfterBlock
   generator g =
       record {
@@ -112,7 +112,7 @@ module _ (entry exit : List ℕ) (size : ℕ) (b : Book) (f : Facts b) (ok : Ent
         beyond = λ z. omega (arith, f .gen g .beyond z, entry-out entry exit b g (ltb-false g (b .plan .G) z));
       }
 
-  consumer : (c : ℕ) → ConsumerFacts (b .blocks + 1) (ltb c (b .plan .C)) (consumerAfterBlock b (entryOf entry exit b) (exitOf entry exit b) c)
+  consumer : (c : ℕ) → ConsumerFacts (b .unitblocks + 1) (ltb c (b .plan .C)) (consumerAfterBlock b (entryOf entry exit b) (exitOf entry exit b) c)
   unfolding consumerAfterBlock
   consumer c =
       record {
@@ -136,8 +136,8 @@ module _ (entry exit : List ℕ) (size : ℕ) (b : Book) (f : Facts b) (ok : Ent
               cycle-low = n .cycle-low;
               cycle-high = n .cycle-high;
               gone-high = n .gone-high;
-              blocks-high = omega (arith, ok .blocks);
-              month-high = omega (arith, ok .month);
+              blocks-high = omega (arith, ok .unitblocks);
+              month-high = omega (arith, ok .monthblocks);
               month-blocks = omega (arith, n .month-blocks);
             };
         agreed = f .agreed;

@@ -53,6 +53,6 @@ module _ (n m month blocks : ℕ) (entry exit : List ℕ) (size : ℕ) where
 
 -- on a stored record, its terms and counts being read apart
 pub record-refusal : (r : Record) {t : Terms} {n : Counts} (entry exit : List ℕ) (size : ℕ) → t ≡ r .terms → n ≡ r .counts → sound (figures r) ≡ true →
-    blockNumber entry exit (t .generators) (t .consumers) (n .month) (n .blocks) size ≡ numberOn (blockRule entry exit size) r
+    blockNumber entry exit (t .generators) (t .consumers) (n .monthblocks) (n .unitblocks) size ≡ numberOn (blockRule entry exit size) r
 unfolding figures planOf blockRule blockRefusal
 record-refusal r entry exit size e f s = rw (e, f) (sym (number-sound (blockRule entry exit size) r s))

@@ -7,13 +7,14 @@ use Rattle.lists.specs.Pairs.{place}
 use Rattle.delivery_rules.specs.Orderable.{Orderable}
 use Rattle.layout_rules.specs.OnBytes.{planIn}
 use Rattle.energy.specs.Limits.{mostGenerators, mostConsumers}
+use Rattle.record_places.specs.RecordSize.{recordBytes}
 
 abbrev pub exitsIn : List ℕ → List ℕ → ℕ → ℕ
 exitsIn s exit = place (planIn s .C) exit
 
 -- the bytes of a record of n generators and m consumers whose order can be read
 pub record Ranked (s : List ℕ) (n m : ℕ) : Type 0 where
-  pub whole : length s ≡ 5752
+  pub whole : length s ≡ recordBytes
   pub n-is : n ≡ planIn s .G
   pub m-is : m ≡ planIn s .C
   pub n-high : n ≤ mostGenerators

@@ -15,7 +15,7 @@ use Rattle.lists.specs.Tables.{table, is-table}
 use Rattle.lists.specs.Pairs.{place}
 use Rattle.lists.specs.PairsLaws.{place-in}
 use Rattle.energy.specs.Limits.{mostFigure}
-use Rattle.codec.specs.Bytes.{encode, decode}
+use Rattle.codec.specs.Bytes.{encode}
 use Rattle.codec.specs.BytesLaws.{Below, length-decode}
 use Rattle.delivery_rules.specs.Plan.{Plan, deemed}
 use Rattle.delivery_rules.specs.Delivery.{unaccounted, lossOf}
@@ -37,15 +37,17 @@ use Rattle.block_rules.specs.Block.{generatorAfterBlock, consumerAfterBlock, af
 use Rattle.block_rules.specs.BlockLaws.{Enterable}
 use Rattle.block_rules.specs.Settling.{settleable}
 use Rattle.block_rules.specs.RoomLaws.{output-moderate}
-use Rattle.layout_rules.specs.OnBytes.{bookIn}
+use Rattle.layout_rules.specs.OnBytes.{bookIn, recordIn}
 use Rattle.raising.specs.Raise.{rowSum, columnSum, Raisable}
 use Rattle.block_totals.specs.Totals.{fourRaised, generatorsRaised, consumersRaised, countsRaised, BlockLists, Settled}
+use Rattle.record_places.specs.RecordSize.{recordNumbers, recordBytes, wordsIn}
+use Rattle.record_places.specs.Places.{unitBlocksAt, agreedAt, injectedAt, unaccountedAt, lostAt, generatorSetOffAt, inadvertentAt, pendingAt}
 
 -- the counts of blocks, behind the five first numbers
 counted : (xs : List ℕ) → length xs ≡ 7 →
-    raised (from 5) 2 (λ i. 1) xs ≡ getD xs 0 0 ∷ getD xs 1 0 ∷ getD xs 2 0 ∷ getD xs 3 0 ∷ getD xs 4 0 ∷ (getD xs 5 0 + 1) ∷ (getD xs 6 0 + 1) ∷ []
+    raised (from unitBlocksAt) 2 (λ i. 1) xs ≡ getD xs 0 0 ∷ getD xs 1 0 ∷ getD xs 2 0 ∷ getD xs 3 0 ∷ getD xs 4 0 ∷ (getD xs 5 0 + 1) ∷ (getD xs 6 0 + 1) ∷ []
 unfolding table raised
-counted xs e = ap (raised (from 5) 2 (λ i. 1)) (is-table 0 7 (λ i. getD xs i 0) xs e (λ i l. refl))
+counted xs e = ap (raised (from unitBlocksAt) 2 (λ i. 1)) (is-table 0 7 (λ i. getD xs i 0) xs e (λ i l. refl))
 
 -- ---- what is added, place by place
 
@@ -110,7 +112,7 @@ module _ (p : Plan) (E R : ℕ → ℕ) (out : List ℕ) (o : Output p E R out) 
 
 module _ (s entry exit out : List ℕ) (f : Facts (bookIn s)) (ok : Enterable entry exit (length out) (bookIn s)) (is : out ≡ blockOutput (bookIn s .plan) (entryOf entry exit (bookIn s)) (exitOf entry exit (bookIn s))) where
   abbrev ws : List ℕ
-  ws = decode 8 719 s
+  ws = wordsIn s
 
   abbrev r : Record
   r = recordOf ws
@@ -134,31 +136,31 @@ module _ (s entry exit out : List ℕ) (f : Facts (bookIn s)) (ok : Enterable en
   able = settleable entry exit (length out) (bookIn s) f ok
 
   shape : Shape r
-  shape = record-shape ws (length-decode 8 719 s)
+  shape = record-shape ws (length-decode 8 recordNumbers s)
 
   -- the kinds stand before all that is raised
-  kind-is : (g : ℕ) → g < p .G → getD four (7 + g * 3) 0 ≡ p .kind g
+  kind-is : (g : ℕ) → g < p .G → getD four (agreedAt + g * 3) 0 ≡ p .kind g
   unfolding fourRaised countsRaised figures planOf
   kind-is g l =
       let few : g < 8 = omega (arith, f .counts .G-high) in
-      let k : ℕ = 7 + g * 3 in
-      raised-other (from 567) _ _ (p .G) k (λ i a x. omega arith) ∙ raised-other (from 559) _ _ (p .G) k (λ i a x. omega arith) ∙
-      raised-other (from 551) _ _ (p .G) k (λ i a x. omega arith) ∙ raised-other (from 543) _ _ (p .G) k (λ i a x. omega arith) ∙
-      raised-other (from 5) _ ws 2 k (λ i a x. omega arith) ∙ sym (place-in 8 (r .agreed .kind) g few ∙ kind-place ws g few)
+      let k : ℕ = agreedAt + g * 3 in
+      raised-other (from generatorSetOffAt) _ _ (p .G) k (λ i a x. omega arith) ∙ raised-other (from lostAt) _ _ (p .G) k (λ i a x. omega arith) ∙
+      raised-other (from unaccountedAt) _ _ (p .G) k (λ i a x. omega arith) ∙ raised-other (from injectedAt) _ _ (p .G) k (λ i a x. omega arith) ∙
+      raised-other (from unitBlocksAt) _ ws 2 k (λ i a x. omega arith) ∙ sym (place-in 8 (r .agreed .kind) g few ∙ kind-place ws g few)
 
   -- the lists with the counts raised; then those of the generators, and those of the consumers
   counts-after : List (List ℕ)
   counts-after =
       let t = r .terms in
       let n = r .counts in
-      set (cut runLengths ws) 0 (t .generators ∷ t .consumers ∷ t .rate ∷ t .cycle ∷ n .gone ∷ (n .blocks + 1) ∷ (n .month + 1) ∷ [])
+      set (cut runLengths ws) 0 (t .generators ∷ t .consumers ∷ t .rate ∷ t .cycle ∷ n .gone ∷ (n .unitblocks + 1) ∷ (n .monthblocks + 1) ∷ [])
 
   runs-counts : cut runLengths (countsRaised ws) ≡ counts-after
   unfolding counts-after countsRaised recordOf fromRuns runLengths cut total
   runs-counts =
-      let at : (λ (i : ℕ). 0 + (5 + i)) ≡ from 5 = fun-ext (λ i. zero-add (5 + i)) in
-      ap (λ (k : ℕ → ℕ). cut runLengths (raised k 2 (λ i. 1) ws)) (sym at) ∙ raised-run runLengths ws 0 (from 5) 2 (λ i. 1) (λ i l. omega arith) ∙
-      ap (set (cut runLengths ws) 0) (counted (take 7 ws) (length-take-le 7 ws (omega (arith, length-decode 8 719 s))))
+      let at : (λ (i : ℕ). 0 + (unitBlocksAt + i)) ≡ from unitBlocksAt = fun-ext (λ i. zero-add (unitBlocksAt + i)) in
+      ap (λ (k : ℕ → ℕ). cut runLengths (raised k 2 (λ i. 1) ws)) (sym at) ∙ raised-run runLengths ws 0 (from unitBlocksAt) 2 (λ i. 1) (λ i l. omega arith) ∙
+      ap (set (cut runLengths ws) 0) (counted (take 7 ws) (length-take-le 7 ws (omega (arith, length-decode 8 recordNumbers s))))
 
   generators-after : List (List ℕ)
   generators-after =
@@ -186,7 +188,7 @@ module _ (s entry exit out : List ℕ) (f : Facts (bookIn s)) (ok : Enterable en
       let z = shape .generators in
       let few : p .G ≤ 8 = f .counts .G-high in
       let d = able .entries in
-      let kind : ℕ → ℕ = λ g. getD four (7 + g * 3) 0 in
+      let kind : ℕ → ℕ = λ g. getD four (agreedAt + g * 3) 0 in
       let one =
       list-raised 8 (p .G) (countsRaised ws) 6 (x .injected) (λ g. getD entry g 0) E few refl (z .injected) runs-counts refl (λ g l. sym (place-in (p .G) entry g l)) (d .entry-beyond) in
       let two =
@@ -203,7 +205,7 @@ module _ (s entry exit out : List ℕ) (f : Facts (bookIn s)) (ok : Enterable en
       let six =
       list-raised 8 (p .G) _ 15 (x .pending) (λ g. if eqb (kind g) 0 then 0 else rowSum (p .C) out (2 * (p .G * p .C)) g) (λ g. if deemed p g then under p E R out listed able g else 0) few refl
       (z .pending) five refl (due p E R out listed able kind kind-is) (none-due p E R out listed able) in
-      ap (cut runLengths) (raised-either (λ g. eqb (kind g) 0) 575 615 (rowSum (p .C) out (2 * (p .G * p .C))) four (p .G) (omega arith)) ∙ six
+      ap (cut runLengths) (raised-either (λ g. eqb (kind g) 0) inadvertentAt pendingAt (rowSum (p .C) out (2 * (p .G * p .C))) four (p .G) (omega arith)) ∙ six
 
   consumers-after : List (List ℕ)
   consumers-after =
@@ -236,7 +238,7 @@ module _ (s entry exit out : List ℕ) (f : Facts (bookIn s)) (ok : Enterable en
 
   -- what is not raised stays
   kept : r ≡ stored (figures r)
-  kept = sym (read-kept ws (length-decode 8 719 s))
+  kept = sym (read-kept ws (length-decode 8 recordNumbers s))
 
   from-runs : fromRuns consumers-after ≡ stored (afterBlock (bookIn s) E R)
   unfolding consumers-after generators-after counts-after recordOf fromRuns runLengths cut stored storedGenerators storedConsumers afterBlock generatorAfterBlock consumerAfterBlock figures planOf generatorAt consumerAt
@@ -280,15 +282,15 @@ module _ (s entry exit out : List ℕ) (f : Facts (bookIn s)) (ok : Enterable en
 
 module _ {s : List ℕ} {n m : ℕ} {counts : Counts} {entry exit out : List ℕ} (h : Settled s n m counts entry exit out) where
   -- bytes of the numbers raised are those of the record that rule 8 stores
-  pub bytes-after : (t : List ℕ) → length t ≡ 5752 → Below 256 t → decode 8 719 t ≡ consumersRaised n m exit out (generatorsRaised n m entry out (countsRaised (decode 8 719 s))) →
+  pub bytes-after : (t : List ℕ) → length t ≡ recordBytes → Below 256 t → wordsIn t ≡ consumersRaised n m exit out (generatorsRaised n m entry out (countsRaised (wordsIn s))) →
       t ≡ encode 8 (words (stored (afterBlock (bookIn s) (entryOf entry exit (bookIn s)) (exitOf entry exit (bookIn s)))))
   bytes-after t size low e =
       sym (bytes-of-record t size low) ∙
       rw (e, h .generators, h .consumers) (ap (λ (x : Record). encode 8 (words x)) (record-after s entry exit out (h .sound) (h .enterable) (h .output)))
 
-  pub counts-raisable : Raisable 5 2 mostFigure s
+  pub counts-raisable : Raisable unitBlocksAt 2 mostFigure s
   counts-raisable =
-      record { size = h .size; placed = omega arith; low = record { at = λ k l. numbers-low (decode 8 719 s) (length-decode 8 719 s) (h .sound) k } }
+      record { size = h .size; placed = omega arith; low = record { at = λ k l. numbers-low (wordsIn s) (length-decode 8 recordNumbers s) (h .sound) k } }
 
   pub entry-sized : length entry ≡ n
   entry-sized = h .enterable .entry-size ∙ sym (h .generators)
@@ -303,5 +305,5 @@ module _ {s : List ℕ} {n m : ℕ} {counts : Counts} {entry exit out : List ℕ
         generators-few = omega (arith, h .generators, h .sound .counts .G-high);
         consumers-few = omega (arith, h .consumers, h .sound .counts .C-high);
         size = rw (h .generators, h .consumers) (h .enterable .output-size);
-        moderate = rw (h .output) (output-moderate (recordOf (decode 8 719 s)) _ _ (h .sound) (h .enterable .entry-most) (h .enterable .exit-most));
+        moderate = rw (h .output) (output-moderate (recordIn s) _ _ (h .sound) (h .enterable .entry-most) (h .enterable .exit-most));
       }

@@ -5,30 +5,32 @@ ghost use Prim.Native.Nat.{_+_, _*_, _≤_, _<_};
 ghost use lib.ListN.{length};
 ghost use Rattle.energy.specs.Limits.{mostFigure};
 ghost use Rattle.arrays.specs.Bounds.{Moderate};
-ghost use Rattle.codec.specs.Bytes.{encode, decode};
+ghost use Rattle.codec.specs.Bytes.{encode};
 ghost use Rattle.record.specs.Stored.{stored};
-ghost use Rattle.record.specs.Words.{words, recordOf};
+ghost use Rattle.record.specs.Words.{words};
 ghost use Rattle.block_rules.specs.Block.{entryOf, exitOf, afterBlock};
-ghost use Rattle.layout_rules.specs.OnBytes.{bookIn};
+ghost use Rattle.layout_rules.specs.OnBytes.{bookIn, recordIn};
 ghost use Rattle.layout_rules.specs.Raised.{from};
 ghost use Rattle.raising.specs.Raise.{rowSum, Raised, mostRaised, Raisable};
 ghost use Rattle.block_totals.specs.Totals.{underdrawnPlace, generatorsRaised, consumersRaised, BlockLists, Settled};
+ghost use Rattle.record_places.specs.RecordSize.{recordBytes, wordsIn};
+ghost use Rattle.record_places.specs.Places.{unitBlocksAt, injectedAt, inadvertentAt, meteredAt};
 use record::Counts;
 
 fn underdrawn_place(s: &[u8], g: usize) -> usize
-    requires { ⌜ (length (now s) ≡ 5752) × (g < 8) ⌝ }
-    ensures { λ r. ⌜ r ≡ underdrawnPlace (decode 8 719 (now (s .entry))) g ⌝ }
+    requires { ⌜ (length (now s) ≡ recordBytes) × (g < 8) ⌝ }
+    ensures { λ r. ⌜ r ≡ underdrawnPlace (wordsIn (now (s .entry))) g ⌝ }
 {
-    if in_place::number_at(s, layout_rules::AGREED + g * 3) == 0 {
-        return layout_rules::INADVERTENT + g;
+    if in_place::number_at(s, record_places::AGREED + g * 3) == 0 {
+        return record_places::INADVERTENT + g;
     }
-    layout_rules::PENDING + g
+    record_places::PENDING + g
 }
 
 // Underdrawn energy by the kind of its generator.
 fn raise_underdrawn(s: &mut [u8], xs: &[u64], first: usize, n: usize, m: usize)
-    requires { ⌜ Raisable 575 48 mostRaised (now s) × ((first + n * m ≤ length (now xs)) × ((n ≤ 8) × ((m ≤ 16) × Moderate (now xs)))) ⌝ }
-    ensures { λ _. ⌜ Raised (underdrawnPlace (decode 8 719 (now (s .entry)))) n (rowSum m (now (xs .entry)) first) (now (s .entry)) (now (s .exit)) ⌝ }
+    requires { ⌜ Raisable inadvertentAt 48 mostRaised (now s) × ((first + n * m ≤ length (now xs)) × ((n ≤ 8) × ((m ≤ 16) × Moderate (now xs)))) ⌝ }
+    ensures { λ _. ⌜ Raised (underdrawnPlace (wordsIn (now (s .entry)))) n (rowSum m (now (xs .entry)) first) (now (s .entry)) (now (s .exit)) ⌝ }
 {
     let mut g: usize = 0;
     while g < n {
@@ -39,35 +41,35 @@ fn raise_underdrawn(s: &mut [u8], xs: &[u64], first: usize, n: usize, m: usize)
 }
 
 fn raise_generators(s: &mut [u8], entry: &[u32], out: &[u64], n: usize, m: usize)
-    requires { ⌜ Raisable 543 80 mostFigure (now s) × ((length (now entry) ≡ n) × BlockLists n m (now out)) ⌝ }
-    ensures { λ _. ⌜ decode 8 719 (now (s .exit)) ≡ generatorsRaised n m (now (entry .entry)) (now (out .entry)) (decode 8 719 (now (s .entry))) ⌝ }
+    requires { ⌜ Raisable injectedAt 80 mostFigure (now s) × ((length (now entry) ≡ n) × BlockLists n m (now out)) ⌝ }
+    ensures { λ _. ⌜ wordsIn (now (s .exit)) ≡ generatorsRaised n m (now (entry .entry)) (now (out .entry)) (wordsIn (now (s .entry))) ⌝ }
 {
     let size = n * m;
-    raising::raise_readings(s, layout_rules::INJECTED, entry);
-    raising::raise_numbers(s, layout_rules::UNACCOUNTED, out, 4 * size, n);
-    raising::raise_rows(s, layout_rules::LOST, out, 0, n, m);
-    raising::raise_rows(s, layout_rules::GENERATOR_SET_OFF, out, size, n, m);
+    raising::raise_readings(s, record_places::INJECTED, entry);
+    raising::raise_numbers(s, record_places::UNACCOUNTED, out, 4 * size, n);
+    raising::raise_rows(s, record_places::LOST, out, 0, n, m);
+    raising::raise_rows(s, record_places::GENERATOR_SET_OFF, out, size, n, m);
     raise_underdrawn(s, out, 2 * size, n, m);
 }
 
 fn raise_consumers(s: &mut [u8], exit: &[u32], out: &[u64], n: usize, m: usize)
-    requires { ⌜ Raisable 623 96 mostFigure (now s) × ((length (now exit) ≡ m) × BlockLists n m (now out)) ⌝ }
-    ensures { λ _. ⌜ decode 8 719 (now (s .exit)) ≡ consumersRaised n m (now (exit .entry)) (now (out .entry)) (decode 8 719 (now (s .entry))) ⌝ }
+    requires { ⌜ Raisable meteredAt 96 mostFigure (now s) × ((length (now exit) ≡ m) × BlockLists n m (now out)) ⌝ }
+    ensures { λ _. ⌜ wordsIn (now (s .exit)) ≡ consumersRaised n m (now (exit .entry)) (now (out .entry)) (wordsIn (now (s .entry))) ⌝ }
 {
     let size = n * m;
-    raising::raise_readings(s, layout_rules::METERED, exit);
-    raising::raise_columns(s, layout_rules::CONSUMER_SET_OFF, out, size, n, m);
-    raising::raise_columns(s, layout_rules::SHORTFALL, out, 3 * size, n, m);
-    raising::raise_numbers(s, layout_rules::OUTSTANDING, out, 4 * size + n, m);
+    raising::raise_readings(s, record_places::METERED, exit);
+    raising::raise_columns(s, record_places::CONSUMER_SET_OFF, out, size, n, m);
+    raising::raise_columns(s, record_places::SHORTFALL, out, 3 * size, n, m);
+    raising::raise_numbers(s, record_places::OUTSTANDING, out, 4 * size + n, m);
 }
 
 // One block more of the unit and of the month than was read.
 fn raise_counts(s: &mut [u8], counts: Counts)
-    requires { ⌜ Raisable 5 2 mostFigure (now s) × (counts ≡ recordOf (decode 8 719 (now s)) .counts) ⌝ }
-    ensures { λ _. ⌜ Raised (from 5) 2 (λ i. 1) (now (s .entry)) (now (s .exit)) ⌝ }
+    requires { ⌜ Raisable unitBlocksAt 2 mostFigure (now s) × (counts ≡ recordIn (now s) .counts) ⌝ }
+    ensures { λ _. ⌜ Raised (from unitBlocksAt) 2 (λ i. 1) (now (s .entry)) (now (s .exit)) ⌝ }
 {
-    in_place::put_at(s, layout_rules::BLOCKS, counts.blocks + 1);
-    in_place::put_at(s, layout_rules::MONTH, counts.month + 1);
+    in_place::put_at(s, record_places::UNIT_BLOCKS, counts.unitblocks + 1);
+    in_place::put_at(s, record_places::MONTH_BLOCKS, counts.monthblocks + 1);
 }
 
 // The record after a block whose lists stand in `out`.

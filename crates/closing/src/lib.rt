@@ -2,12 +2,11 @@
 // A function with a `requires` is called by this repository's crates only, and they meet it.
 ghost use mathlib.Core.Path.{_≡_};
 ghost use lib.ListN.{length};
-ghost use Rattle.codec.specs.Bytes.{decode};
 ghost use Rattle.record.specs.Called.{numberOn};
-ghost use Rattle.record.specs.Words.{recordOf};
-ghost use Rattle.layout_rules.specs.OnBytes.{CalledOn};
+ghost use Rattle.layout_rules.specs.OnBytes.{CalledOn, recordIn};
 ghost use Rattle.layout_rules.specs.Head.{HeadRead};
 ghost use Rattle.closing_rules.specs.Closing.{closingRule, Closed};
+ghost use Rattle.record_places.specs.RecordSize.{recordBytes};
 use record::Answer;
 use record::Counts;
 use record::Record;
@@ -16,12 +15,12 @@ use record::Terms;
 // The number of a closing on the record that the bytes hold, with its terms and counts.
 fn refusal_on(s: &[u8], terms: Terms, counts: Counts, size: usize) -> u32
     requires { ⌜ HeadRead (now s) terms counts ⌝ }
-    ensures { λ x. ⌜ x ≡ numberOn (closingRule size) (recordOf (decode 8 719 (now (s .entry)))) ⌝ }
+    ensures { λ x. ⌜ x ≡ numberOn (closingRule size) (recordIn (now (s .entry))) ⌝ }
 {
     if soundness::is_sound(s, terms, counts) {
         let n = terms.generators as usize;
         let m = terms.consumers as usize;
-        closing_refusal::refusal(n, m, counts.month, size)
+        closing_refusal::refusal(n, m, counts.monthblocks, size)
     } else {
         1
     }
@@ -30,7 +29,7 @@ fn refusal_on(s: &[u8], terms: Terms, counts: Counts, size: usize) -> u32
 // Closes a month of the record that the bytes hold. The lists are made in the slice of the output, and the totals are entered in the bytes
 // from there.
 pub fn close_on(s: &mut [u8], out: &mut [u64]) -> u32
-    requires { ⌜ length (now s) ≡ 5752 ⌝ }
+    requires { ⌜ length (now s) ≡ recordBytes ⌝ }
     ensures { λ r. ⌜ CalledOn (closingRule (length (now (out .entry)))) (now (s .entry)) (now (out .entry)) r (now (s .exit)) (now (out .exit)) ⌝ }
 {
     let terms = loading::load_terms(s);
@@ -48,7 +47,7 @@ pub fn close_on(s: &mut [u8], out: &mut [u64]) -> u32
 pub fn close(r: Record, out: &mut [u64]) -> Answer
     ensures { λ a. ⌜ Closed r (now (out .entry)) a (now (out .exit)) ⌝ }
 {
-    let mut s = [0u8; 5752];
+    let mut s = [0u8; record_places::RECORD_BYTES];
     storing::store(r, &mut s);
     let number = close_on(&mut s, out);
     let after = loading::load(&s);

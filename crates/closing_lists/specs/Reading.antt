@@ -12,23 +12,23 @@ use Rattle.order_rules.specs.Members.{Below, below-more}
 use Rattle.order.specs.Arrays.{turnsOf}
 use Rattle.delivery_rules.specs.Plan.{order, suppliers}
 use Rattle.delivery_rules.specs.DeliveryLaws.{suppliers-within}
-use Rattle.codec.specs.Bytes.{decode}
-use Rattle.record.specs.Words.{recordOf}
 use Rattle.record.specs.declared.Terms.{Terms}
 use Rattle.record.specs.declared.Counts.{Counts}
 use Rattle.record.specs.declared.Generators.{Generators}
 use Rattle.record.specs.declared.Consumers.{Consumers}
 use Rattle.layout_rules.specs.Layout.{run, generators-at, consumers-at}
 use Rattle.layout_rules.specs.Head.{HeadRead}
-use Rattle.layout_rules.specs.OnBytes.{planIn}
+use Rattle.layout_rules.specs.OnBytes.{planIn, recordIn}
 use Rattle.layout_rules.specs.Columns.{link-column}
 use Rattle.closing_lists.specs.Accepted.{StepsRead}
+use Rattle.record_places.specs.RecordSize.{wordsIn}
+use Rattle.record_places.specs.Places.{linkAt, bankAt, pendingAt, outstandingAt}
 
 pub steps-read : (s : List ℕ) {terms : Terms} {counts : Counts} {held pending outstanding : List ℕ} → HeadRead s terms counts →
-    held ≡ run (decode 8 719 s) 8 607 → pending ≡ run (decode 8 719 s) 8 615 → outstanding ≡ run (decode 8 719 s) 16 703 →
-    StepsRead (recordOf (decode 8 719 s)) terms counts held pending outstanding
+    held ≡ run (wordsIn s) 8 bankAt → pending ≡ run (wordsIn s) 8 pendingAt → outstanding ≡ run (wordsIn s) 16 outstandingAt →
+    StepsRead (recordIn s) terms counts held pending outstanding
 steps-read s head held pending outstanding =
-    let ws = decode 8 719 s in
+    let ws = wordsIn s in
     record {
       terms-are = head .terms-are;
       counts-are = head .counts-are;
@@ -38,7 +38,7 @@ steps-read s head held pending outstanding =
     }
 
 -- one consumer's links, read where they stand
-pub suppliers-are : (s : List ℕ) (c n : ℕ) (keys : List ℕ) {links : List ℕ} → c < 16 → turnsOf keys n ≡ order (planIn s) c → links ≡ table 8 (λ g. getD (decode 8 719 s) (31 + c + g * 16) 0) →
+pub suppliers-are : (s : List ℕ) (c n : ℕ) (keys : List ℕ) {links : List ℕ} → c < 16 → turnsOf keys n ≡ order (planIn s) c → links ≡ table 8 (λ g. getD (wordsIn s) (linkAt + c + g * 16) 0) →
     only (λ g. eqb (place 8 links g) 1) (turnsOf keys n) ≡ suppliers (planIn s) c
 unfolding suppliers
 suppliers-are s c n keys l turns links-are = rw (turns, link-column s c l links-are)

@@ -2,16 +2,15 @@
 // Called by this repository's crates only: what a function requires, its callers meet.
 ghost use mathlib.Core.Path.{_≡_};
 ghost use lib.ListN.{length};
-ghost use Rattle.codec.specs.Bytes.{decode};
 ghost use Rattle.delivery_rules.specs.Plan.{suppliers};
 ghost use Rattle.record.specs.Called.{numberOn};
-ghost use Rattle.record.specs.Words.{recordOf};
-ghost use Rattle.layout_rules.specs.OnBytes.{planIn, bookIn};
+ghost use Rattle.layout_rules.specs.OnBytes.{planIn, bookIn, recordIn};
 ghost use Rattle.layout_rules.specs.Head.{HeadRead};
 ghost use Rattle.bank.specs.Arrays.{drawingOf};
 ghost use Rattle.closing_rules.specs.Closing.{closingOutput, closingRule};
 ghost use Rattle.closing_lists.specs.Drawable.{Drawable};
 ghost use Rattle.closing_lists.specs.Output.{OutputRoom, sixLists};
+ghost use Rattle.record_places.specs.RecordSize.{recordBytes};
 use bank::Bank;
 use bank::Drawing;
 use record::Counts;
@@ -20,7 +19,7 @@ use record::Terms;
 // Steps 2 and 3: consumers 1 to m draw one after the other, each by its order and links where they stand in the record's bytes. The columns
 // and places from m on stay the zeros that they are made with.
 fn draw_all(s: &[u8], bank: Bank, n: usize, m: usize, outstanding: [u64; 16]) -> Drawing
-    requires { ⌜ (length (now s) ≡ 5752) × Drawable (planIn (now s)) n m outstanding ⌝ }
+    requires { ⌜ (length (now s) ≡ recordBytes) × Drawable (planIn (now s)) n m outstanding ⌝ }
     ensures { λ r. ⌜ r ≡ drawingOf (suppliers (planIn (now (s .entry)))) m bank outstanding ⌝ }
 {
     let mut drawn = [0u64; 128];
@@ -29,7 +28,7 @@ fn draw_all(s: &[u8], bank: Bank, n: usize, m: usize, outstanding: [u64; 16]) ->
     let mut c: usize = 0;
     while c < m {
         let keys = turns::turns_at(s, n, c);
-        let links = in_place::column_at(s, layout_rules::LINK + c);
+        let links = in_place::column_at(s, record_places::LINK + c);
         let turn = left.draw(n, keys, links, outstanding[c]);
         let column = turn.drawn;
         let next = turn.bank;
@@ -75,14 +74,14 @@ fn write_lists(
 
 // Steps 1 to 4 on what the record holds for them, and their lists into the slice.
 pub fn make(s: &[u8], terms: Terms, counts: Counts, out: &mut [u64])
-    requires { ⌜ HeadRead (now s) terms counts × (numberOn (closingRule (length (now out))) (recordOf (decode 8 719 (now s))) ≡ 0) ⌝ }
+    requires { ⌜ HeadRead (now s) terms counts × (numberOn (closingRule (length (now out))) (recordIn (now s)) ≡ 0) ⌝ }
     ensures { λ _. ⌜ now (out .exit) ≡ closingOutput (bookIn (now (s .entry))) ⌝ }
 {
     let n = terms.generators as usize;
     let m = terms.consumers as usize;
-    let held = loading::load8(s, layout_rules::BANK);
-    let pending = loading::load8(s, layout_rules::PENDING);
-    let outstanding = loading::load16(s, layout_rules::OUTSTANDING);
+    let held = loading::load8(s, record_places::BANK);
+    let pending = loading::load8(s, record_places::PENDING);
+    let outstanding = loading::load16(s, record_places::OUTSTANDING);
     let before = Bank { balance: held };
     let credit = before.credit(pending, terms.rate);
     let charge = credit.charge;

@@ -97,8 +97,8 @@ module _ (b : Book) where
         rate = b .rate;
         cycle = b .cycle;
         gone = goneAfter;
-        blocks = b .blocks;
-        month = 0;
+        unitblocks = b .unitblocks;
+        monthblocks = 0;
         gen = generatorAfterClosing;
         con = consumerAfterClosing;
       }
@@ -124,7 +124,7 @@ unfoldable pub closingNumber : (G C month size : ℕ) → ℕ
 closingNumber G C month size = firstOf ((2, not (eqb size (closingLength G C))) ∷ (13, eqb month 0) ∷ [])
 
 unfoldable pub closingRefusal : ℕ → Book → ℕ
-closingRefusal size b = closingNumber (b .plan .G) (b .plan .C) (b .month) size
+closingRefusal size b = closingNumber (b .plan .G) (b .plan .C) (b .monthblocks) size
 
 unfoldable pub closingRule : ℕ → Rule
 closingRule size = record { refusal = closingRefusal size; after = afterClosing; output = closingOutput }

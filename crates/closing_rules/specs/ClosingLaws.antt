@@ -93,7 +93,7 @@ module _ (b : Book) where
       go true e = omega (arith, f .counts .cycle-low)
       go false e = omega (arith, f .counts .gone-high, eqb-false (b .gone + 1) (b .cycle) e)
 
-  generator : Facts b → (g : ℕ) → GeneratorFacts (b .blocks) (ltb g (b .plan .G)) (generatorAfterClosing b g)
+  generator : Facts b → (g : ℕ) → GeneratorFacts (b .unitblocks) (ltb g (b .plan .G)) (generatorAfterClosing b g)
   unfolding generatorAfterClosing takenUp
   generator f g =
       let old = f .gen g in
@@ -103,7 +103,7 @@ module _ (b : Book) where
         beyond = old .beyond;
       }
 
-  consumer : Facts b → (c : ℕ) → ConsumerFacts (b .blocks) (ltb c (b .plan .C)) (consumerAfterClosing b c)
+  consumer : Facts b → (c : ℕ) → ConsumerFacts (b .unitblocks) (ltb c (b .plan .C)) (consumerAfterClosing b c)
   unfolding consumerAfterClosing
   consumer f c =
       let old = f .con c in

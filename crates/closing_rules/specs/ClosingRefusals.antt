@@ -19,7 +19,7 @@ use Rattle.closing_rules.specs.ClosingLaws.{closing-sized}
 
 -- on a stored record, its terms and counts being read apart
 pub record-refusal : (r : Record) {t : Terms} {n : Counts} (size : ℕ) → t ≡ r .terms → n ≡ r .counts → sound (figures r) ≡ true →
-    closingNumber (t .generators) (t .consumers) (n .month) size ≡ numberOn (closingRule size) r
+    closingNumber (t .generators) (t .consumers) (n .monthblocks) size ≡ numberOn (closingRule size) r
 unfolding figures planOf closingRule closingRefusal
 record-refusal r size e f s = rw (e, f) (sym (number-sound (closingRule size) r s))
 

@@ -11,7 +11,7 @@ use Rattle.lists.specs.Tables.{table, is-table}
 use Rattle.lists.specs.Pairs.{place}
 use Rattle.lists.specs.PairsLaws.{place-in}
 use Rattle.energy.specs.Limits.{mostCycle, mostFigure}
-use Rattle.codec.specs.Bytes.{encode, decode}
+use Rattle.codec.specs.Bytes.{encode}
 use Rattle.codec.specs.BytesLaws.{Below, length-decode}
 use Rattle.record.specs.Book.{Book}
 use Rattle.record.specs.Stored.{generatorAt, consumerAt, planOf, figures, storedGenerators, storedConsumers, stored}
@@ -32,6 +32,8 @@ use Rattle.closing_rules.specs.ClosingOutput.{closing-length, drawn-at, charge-
 use Rattle.closing_rules.specs.ClosingBeyond.{bank-beyond, pending-beyond, charge-beyond, given-beyond, lapsed-beyond, bank-after-beyond, open-beyond, taken-beyond, supplied-beyond}
 use Rattle.closing_rules.specs.ClosingRoom.{closing-output-moderate}
 use Rattle.closing_totals.specs.Totals.{countsAfter, totalsRaised, stocksReplaced, ClosingLists, Listed}
+use Rattle.record_places.specs.RecordSize.{recordNumbers, recordBytes, wordsIn}
+use Rattle.record_places.specs.Places.{goneAt, chargeAt}
 
 -- the first seven numbers, with other months gone and no block in the month
 counted : (xs : List ℕ) (gone : ℕ) → length xs ≡ 7 →
@@ -43,7 +45,7 @@ counted xs gone e = ap (λ (l : List ℕ). set (set l 4 gone) 6 0) (is-table 0 7
 
 module _ (s out : List ℕ) (f : Facts (bookIn s)) (is : out ≡ closingOutput (bookIn s)) where
   abbrev ws : List ℕ
-  ws = decode 8 719 s
+  ws = wordsIn s
 
   abbrev r : Record
   r = recordOf ws
@@ -58,7 +60,7 @@ module _ (s out : List ℕ) (f : Facts (bookIn s)) (is : out ≡ closingOutput (
   C = b .plan .C
 
   shape : Shape r
-  shape = record-shape ws (length-decode 8 719 s)
+  shape = record-shape ws (length-decode 8 recordNumbers s)
 
   gave : (g : ℕ) → g < G → rowSum C out 0 g ≡ sum C (drawn b g)
   gave g l = sum-cong C _ (drawn b g) (λ c k. rw (zero-add, is) (drawn-at b g c l k))
@@ -68,15 +70,15 @@ module _ (s out : List ℕ) (f : Facts (bookIn s)) (is : out ≡ closingOutput (
 
   -- the lists with the counts of the next month; then those that are raised, and those that are replaced
   counts-after : List (List ℕ)
-  counts-after = let t = r .terms in set (cut runLengths ws) 0 (t .generators ∷ t .consumers ∷ t .rate ∷ t .cycle ∷ goneAfter b ∷ r .counts .blocks ∷ 0 ∷ [])
+  counts-after = let t = r .terms in set (cut runLengths ws) 0 (t .generators ∷ t .consumers ∷ t .rate ∷ t .cycle ∷ goneAfter b ∷ r .counts .unitblocks ∷ 0 ∷ [])
 
   runs-counts : cut runLengths (countsAfter ws) ≡ counts-after
   unfolding counts-after countsAfter recordOf fromRuns runLengths cut total
   runs-counts =
       let gone = goneAfter b in
-      set-run runLengths (set ws 4 gone) 0 6 0 (omega arith) ∙
+      set-run runLengths (set ws goneAt gone) 0 6 0 (omega arith) ∙
       ap (λ (xss : List (List ℕ)). set xss 0 (set (getD xss 0 []) 6 0)) (set-run runLengths ws 0 4 gone (omega arith)) ∙
-      ap (set (cut runLengths ws) 0) (counted (take 7 ws) gone (length-take-le 7 ws (omega (arith, length-decode 8 719 s))))
+      ap (set (cut runLengths ws) 0) (counted (take 7 ws) gone (length-take-le 7 ws (omega (arith, length-decode 8 recordNumbers s))))
 
   totals-after : List (List ℕ)
   totals-after =
@@ -130,7 +132,7 @@ module _ (s out : List ℕ) (f : Facts (bookIn s)) (is : out ≡ closingOutput (
 
   -- what is not changed stays
   kept : r ≡ stored (figures r)
-  kept = sym (read-kept ws (length-decode 8 719 s))
+  kept = sym (read-kept ws (length-decode 8 recordNumbers s))
 
   from-runs : fromRuns stocks-after ≡ stored (afterClosing b)
   unfolding stocks-after totals-after counts-after recordOf fromRuns runLengths cut stored storedGenerators storedConsumers afterClosing generatorAfterClosing consumerAfterClosing figures planOf generatorAt consumerAt
@@ -183,7 +185,7 @@ module _ {s out : List ℕ} {terms : Terms} {counts : Counts} (h : Listed s term
   unfolding figures
   gone-few = rw (h .head .counts-are) (omega (arith, h .sound .counts .gone-high, h .sound .counts .cycle-high))
 
-  pub totals-raisable : {t : List ℕ} → length t ≡ 5752 → decode 8 719 t ≡ countsAfter (decode 8 719 s) → Raisable 583 136 mostFigure t
+  pub totals-raisable : {t : List ℕ} → length t ≡ recordBytes → wordsIn t ≡ countsAfter (wordsIn s) → Raisable chargeAt 136 mostFigure t
   unfolding countsAfter
   totals-raisable {t} size e =
       record {
@@ -195,9 +197,9 @@ module _ {s out : List ℕ} {terms : Terms} {counts : Counts} (h : Listed s term
                   omega (
                     arith,
                     ap (λ (ws : List ℕ). getD ws k 0) e,
-                    getD-set-other (set (decode 8 719 s) 4 (goneAfter (bookIn s))) 6 k 0 0 (λ x. omega arith),
-                    getD-set-other (decode 8 719 s) 4 k (goneAfter (bookIn s)) 0 (λ x. omega arith),
-                    numbers-low (decode 8 719 s) (length-decode 8 719 s) (h .sound) k,
+                    getD-set-other (set (wordsIn s) goneAt (goneAfter (bookIn s))) 6 k 0 0 (λ x. omega arith),
+                    getD-set-other (wordsIn s) 4 k (goneAfter (bookIn s)) 0 (λ x. omega arith),
+                    numbers-low (wordsIn s) (length-decode 8 recordNumbers s) (h .sound) k,
                   );
             };
       }
@@ -221,7 +223,7 @@ module _ {s out : List ℕ} {terms : Terms} {counts : Counts} (h : Listed s term
       }
 
   -- the bytes of the changed numbers are those of the record that the rules store
-  pub bytes-after : (t : List ℕ) → length t ≡ 5752 → Below 256 t → decode 8 719 t ≡ stocksReplaced n m out (totalsRaised n m out (countsAfter (decode 8 719 s))) →
+  pub bytes-after : (t : List ℕ) → length t ≡ recordBytes → Below 256 t → wordsIn t ≡ stocksReplaced n m out (totalsRaised n m out (countsAfter (wordsIn s))) →
       t ≡ encode 8 (words (stored (afterClosing (bookIn s))))
   bytes-after t size low e =
       sym (bytes-of-record t size low) ∙ rw (e, n-is, m-is) (ap (λ (x : Record). encode 8 (words x)) (record-after s out (h .sound) (h .output)))

@@ -14,28 +14,29 @@ use Rattle.layout_rules.specs.Raised.{raised, from}
 use Rattle.layout_rules.specs.Replaced.{replaced}
 use Rattle.raising.specs.Raise.{rowSum, columnSum, OutputLists}
 use Rattle.closing_rules.specs.Closing.{goneAfter, closingOutput}
+use Rattle.record_places.specs.Places.{goneAt, chargeAt, generatorDrawnAt, lapsedAt, bankAt, pendingAt, consumerDrawnAt, suppliedAt, outstandingAt}
 
 -- the months gone, and no block in the month
 unfoldable pub countsAfter : List ℕ → List ℕ
-countsAfter ws = set (set ws 4 (goneAfter (figures (recordOf ws)))) 6 0
+countsAfter ws = set (set ws goneAt (goneAfter (figures (recordOf ws)))) 6 0
 
 -- for n generators and m consumers, by the output: drawn pairs; charge, lapsed and bank by generator; open and supplied by consumer
 module _ (n m : ℕ) (out ws : List ℕ) where
   -- charge, drawn and lapsed by generator, drawn and supplied by consumer
   unfoldable pub totalsRaised : List ℕ
   totalsRaised =
-      raised (from 687) m (λ c. getD out (n * m + 3 * n + m + c) 0)
-      (raised (from 671) m (columnSum n m out 0)
-      (raised (from 599) n (λ g. getD out (n * m + n + g) 0)
-      (raised (from 591) n (rowSum m out 0)
-      (raised (from 583) n (λ g. getD out (n * m + g) 0) ws))))
+      raised (from suppliedAt) m (λ c. getD out (n * m + 3 * n + m + c) 0)
+      (raised (from consumerDrawnAt) m (columnSum n m out 0)
+      (raised (from lapsedAt) n (λ g. getD out (n * m + n + g) 0)
+      (raised (from generatorDrawnAt) n (rowSum m out 0)
+      (raised (from chargeAt) n (λ g. getD out (n * m + g) 0) ws))))
 
   -- the bank is that of the output, and nothing is pending or open
   unfoldable pub stocksReplaced : List ℕ
   stocksReplaced =
-      replaced (from 703) m (λ c. 0)
-      (replaced (from 615) n (λ g. 0)
-      (replaced (from 607) n (λ g. getD out (n * m + 2 * n + g) 0) ws))
+      replaced (from outstandingAt) m (λ c. 0)
+      (replaced (from pendingAt) n (λ g. 0)
+      (replaced (from bankAt) n (λ g. getD out (n * m + 2 * n + g) 0) ws))
 
 -- the lists of a closing
 abbrev pub ClosingLists : (n m : ℕ) (out : List ℕ) → Type 0

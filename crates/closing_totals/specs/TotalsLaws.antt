@@ -4,7 +4,6 @@ use mathlib.Core.Path.{_≡_, _∙_}
 use mathlib.Core.List.{List}
 use lib.ListN.{getD}
 use Rattle.lists.specs.Choice.{if_then_else_}
-use Rattle.codec.specs.Bytes.{decode}
 use Rattle.record.specs.Stored.{figures}
 use Rattle.record.specs.declared.Terms.{Terms}
 use Rattle.record.specs.declared.Counts.{Counts}
@@ -14,6 +13,8 @@ use Rattle.layout_rules.specs.Raised.{from}
 use Rattle.raising.specs.Raise.{rowSum, columnSum, Raised, Replaced}
 use Rattle.closing_rules.specs.Closing.{cycleEnds, lapses, goneAfter}
 use Rattle.closing_totals.specs.Totals.{totalsRaised, stocksReplaced}
+use Rattle.record_places.specs.RecordSize.{wordsIn}
+use Rattle.record_places.specs.Places.{chargeAt, generatorDrawnAt, lapsedAt, bankAt, pendingAt, consumerDrawnAt, suppliedAt, outstandingAt}
 
 -- months gone after the closing, by the terms and counts that the call read
 pub gone-after : (s : List ℕ) {terms : Terms} {counts : Counts} → HeadRead s terms counts →
@@ -23,14 +24,14 @@ gone-after s head = rw (head .terms-are, head .counts-are)
 
 module _ (n m : ℕ) (out s : List ℕ) where
   pub totals-all : {t u v w x : List ℕ} →
-      Raised (from 583) n (λ g. getD out (n * m + g) 0) s t → Raised (from 591) n (rowSum m out 0) t u → Raised (from 599) n (λ g. getD out (n * m + n + g) 0) u v →
-      Raised (from 671) m (columnSum n m out 0) v w → Raised (from 687) m (λ c. getD out (n * m + 3 * n + m + c) 0) w x →
-      decode 8 719 x ≡ totalsRaised n m out (decode 8 719 s)
+      Raised (from chargeAt) n (λ g. getD out (n * m + g) 0) s t → Raised (from generatorDrawnAt) n (rowSum m out 0) t u → Raised (from lapsedAt) n (λ g. getD out (n * m + n + g) 0) u v →
+      Raised (from consumerDrawnAt) m (columnSum n m out 0) v w → Raised (from suppliedAt) m (λ c. getD out (n * m + 3 * n + m + c) 0) w x →
+      wordsIn x ≡ totalsRaised n m out (wordsIn s)
   unfolding totalsRaised
   totals-all a b c d e = e .is ∙ rw (d .is, c .is, b .is, a .is)
 
   pub stocks-all : {t u v : List ℕ} →
-      Replaced (from 607) n (λ g. getD out (n * m + 2 * n + g) 0) s t → Replaced (from 615) n (λ g. 0) t u → Replaced (from 703) m (λ c. 0) u v →
-      decode 8 719 v ≡ stocksReplaced n m out (decode 8 719 s)
+      Replaced (from bankAt) n (λ g. getD out (n * m + 2 * n + g) 0) s t → Replaced (from pendingAt) n (λ g. 0) t u → Replaced (from outstandingAt) m (λ c. 0) u v →
+      wordsIn v ≡ stocksReplaced n m out (wordsIn s)
   unfolding stocksReplaced
   stocks-all a b c = c .is ∙ rw (b .is, a .is)

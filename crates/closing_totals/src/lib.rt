@@ -5,7 +5,7 @@ ghost use Prim.Native.Nat.{_+_, _≤_};
 ghost use lib.ListN.{length};
 ghost use Rattle.lists.specs.Choice.{if_then_else_};
 ghost use Rattle.energy.specs.Limits.{mostCycle, mostFigure};
-ghost use Rattle.codec.specs.Bytes.{encode, decode};
+ghost use Rattle.codec.specs.Bytes.{encode};
 ghost use Rattle.record.specs.Stored.{stored};
 ghost use Rattle.record.specs.Words.{words};
 ghost use Rattle.layout_rules.specs.OnBytes.{bookIn};
@@ -13,6 +13,8 @@ ghost use Rattle.layout_rules.specs.Head.{HeadRead};
 ghost use Rattle.raising.specs.Raise.{Raisable};
 ghost use Rattle.closing_rules.specs.Closing.{cycleEnds, afterClosing};
 ghost use Rattle.closing_totals.specs.Totals.{countsAfter, totalsRaised, stocksReplaced, ClosingLists, Listed};
+ghost use Rattle.record_places.specs.RecordSize.{recordBytes, wordsIn};
+ghost use Rattle.record_places.specs.Places.{chargeAt};
 use bank::Bank;
 use record::Counts;
 use record::Terms;
@@ -29,34 +31,34 @@ fn months_gone(gone: u64, cycle: u64) -> u64
 // The next month, which has no block yet.
 fn start_month(s: &mut [u8], terms: Terms, counts: Counts)
     requires { ⌜ HeadRead (now s) terms counts × (counts .gone ≤ mostCycle) ⌝ }
-    ensures { λ _. ⌜ decode 8 719 (now (s .exit)) ≡ countsAfter (decode 8 719 (now (s .entry))) ⌝ }
+    ensures { λ _. ⌜ wordsIn (now (s .exit)) ≡ countsAfter (wordsIn (now (s .entry))) ⌝ }
 {
     let gone = months_gone(counts.gone, terms.cycle);
-    in_place::put_at(s, layout_rules::GONE, gone);
-    in_place::put_at(s, layout_rules::MONTH, 0);
+    in_place::put_at(s, record_places::GONE, gone);
+    in_place::put_at(s, record_places::MONTH_BLOCKS, 0);
 }
 
 fn raise_totals(s: &mut [u8], out: &[u64], n: usize, m: usize)
-    requires { ⌜ Raisable 583 136 mostFigure (now s) × ClosingLists n m (now out) ⌝ }
-    ensures { λ _. ⌜ decode 8 719 (now (s .exit)) ≡ totalsRaised n m (now (out .entry)) (decode 8 719 (now (s .entry))) ⌝ }
+    requires { ⌜ Raisable chargeAt 136 mostFigure (now s) × ClosingLists n m (now out) ⌝ }
+    ensures { λ _. ⌜ wordsIn (now (s .exit)) ≡ totalsRaised n m (now (out .entry)) (wordsIn (now (s .entry))) ⌝ }
 {
     let size = n * m;
     let lapsed = size + n;
-    raising::raise_numbers(s, layout_rules::CHARGE, out, size, n);
-    raising::raise_rows(s, layout_rules::GENERATOR_DRAWN, out, 0, n, m);
-    raising::raise_numbers(s, layout_rules::LAPSED, out, lapsed, n);
-    raising::raise_columns(s, layout_rules::CONSUMER_DRAWN, out, 0, n, m);
-    raising::raise_numbers(s, layout_rules::SUPPLIED, out, size + 3 * n + m, m);
+    raising::raise_numbers(s, record_places::CHARGE, out, size, n);
+    raising::raise_rows(s, record_places::GENERATOR_DRAWN, out, 0, n, m);
+    raising::raise_numbers(s, record_places::LAPSED, out, lapsed, n);
+    raising::raise_columns(s, record_places::CONSUMER_DRAWN, out, 0, n, m);
+    raising::raise_numbers(s, record_places::SUPPLIED, out, size + 3 * n + m, m);
 }
 
 // The bank that is left, and nothing pending or open.
 fn replace_stocks(s: &mut [u8], out: &[u64], n: usize, m: usize)
-    requires { ⌜ (length (now s) ≡ 5752) × ClosingLists n m (now out) ⌝ }
-    ensures { λ _. ⌜ decode 8 719 (now (s .exit)) ≡ stocksReplaced n m (now (out .entry)) (decode 8 719 (now (s .entry))) ⌝ }
+    requires { ⌜ (length (now s) ≡ recordBytes) × ClosingLists n m (now out) ⌝ }
+    ensures { λ _. ⌜ wordsIn (now (s .exit)) ≡ stocksReplaced n m (now (out .entry)) (wordsIn (now (s .entry))) ⌝ }
 {
-    raising::replace_numbers(s, layout_rules::BANK, out, n * m + 2 * n, n);
-    raising::clear_numbers(s, layout_rules::PENDING, n);
-    raising::clear_numbers(s, layout_rules::OUTSTANDING, m);
+    raising::replace_numbers(s, record_places::BANK, out, n * m + 2 * n, n);
+    raising::clear_numbers(s, record_places::PENDING, n);
+    raising::clear_numbers(s, record_places::OUTSTANDING, m);
 }
 
 // The record after a closing whose lists stand in `out`.

@@ -8,11 +8,11 @@ use lib.ListN.{getD}
 use Rattle.lists.specs.Tables.{table, table-same}
 use Rattle.lists.specs.Pairs.{place, cell}
 use Rattle.lists.specs.PairsLaws.{cell-in, cell-out, place-table}
-use Rattle.codec.specs.Bytes.{decode}
-use Rattle.record.specs.Words.{recordOf}
 use Rattle.record.specs.Stored.{planOf}
 use Rattle.layout_rules.specs.Places.{link-place, rank-place}
-use Rattle.layout_rules.specs.OnBytes.{planIn}
+use Rattle.layout_rules.specs.OnBytes.{planIn, recordIn}
+use Rattle.record_places.specs.RecordSize.{wordsIn}
+use Rattle.record_places.specs.Places.{linkAt, rankAt}
 
 -- column c of a pair list that stands from place `at` on, read number by number
 column : (ws list : List ℕ) (at c : ℕ) {xs : List ℕ} → ((i : ℕ) → i < 128 → getD list i 0 ≡ getD ws (at + i) 0) → c < 16 →
@@ -24,10 +24,10 @@ column ws list at c stands l e =
     rw (e ∙ table-same 8 _ _ same) (place-table 8 (λ g. cell 8 16 list g c) (λ g h. cell-out 8 16 list g c (inl h)))
 
 module _ (s : List ℕ) (c : ℕ) {xs : List ℕ} (l : c < 16) where
-  pub rank-column : xs ≡ table 8 (λ g. getD (decode 8 719 s) (415 + c + g * 16) 0) → place 8 xs ≡ (λ g. planIn s .rank g c)
+  pub rank-column : xs ≡ table 8 (λ g. getD (wordsIn s) (rankAt + c + g * 16) 0) → place 8 xs ≡ (λ g. planIn s .rank g c)
   unfolding planOf
-  rank-column = column (decode 8 719 s) (recordOf (decode 8 719 s) .schedule .rank) 415 c (rank-place (decode 8 719 s)) l
+  rank-column = column (wordsIn s) (recordIn s .schedule .rank) rankAt c (rank-place (wordsIn s)) l
 
-  pub link-column : xs ≡ table 8 (λ g. getD (decode 8 719 s) (31 + c + g * 16) 0) → place 8 xs ≡ (λ g. planIn s .link g c)
+  pub link-column : xs ≡ table 8 (λ g. getD (wordsIn s) (linkAt + c + g * 16) 0) → place 8 xs ≡ (λ g. planIn s .link g c)
   unfolding planOf
-  link-column = column (decode 8 719 s) (recordOf (decode 8 719 s) .links .link) 31 c (link-place (decode 8 719 s)) l
+  link-column = column (wordsIn s) (recordIn s .links .link) linkAt c (link-place (wordsIn s)) l

@@ -1,4 +1,4 @@
--- A record read from its 719 numbers is stored again as it stands. Assumes nothing.
+-- A record read from its numbers is stored again as it stands. Assumes nothing.
 use Prim.Native.Nat.{ℕ, _≤_, _<_}
 use mathlib.Core.Path.{_≡_, ap, _∙_}
 use mathlib.Core.List.{List, []}
@@ -11,8 +11,9 @@ use Rattle.record.specs.SoundLaws.{Facts}
 use Rattle.record.specs.Words.{runLengths, total, words, cut, fromRuns, recordOf}
 use Rattle.energy.specs.Limits.{mostFigure}
 use Rattle.layout_rules.specs.LayoutLaws.{run-length, words-of-record, words-low}
+use Rattle.record_places.specs.RecordSize.{recordNumbers}
 
-module _ (ws : List ℕ) (e : length ws ≡ 719) where
+module _ (ws : List ℕ) (e : length ws ≡ recordNumbers) where
   pub record-shape : Shape (recordOf ws)
   unfolding recordOf fromRuns runLengths cut total
   record-shape =

@@ -1,4 +1,4 @@
--- Where the record's parts stand among its 719 numbers. Assumes nothing.
+-- Where the record's parts stand among its numbers. Assumes nothing.
 use Prim.Native.Nat.{ℕ, zero, suc, _+_, _*_, _/_, _%_, _<_}
 use mathlib.Core.Path.{_≡_, refl, sym, ap, _∙_}
 use mathlib.Core.List.{List, [], _∷_, _++_, append-assoc, append-nil}
@@ -19,6 +19,8 @@ use Rattle.record.specs.declared.Links.{Links}
 use Rattle.record.specs.declared.Schedule.{Schedule}
 use Rattle.record.specs.declared.Generators.{Generators}
 use Rattle.record.specs.declared.Consumers.{Consumers}
+use Rattle.record_places.specs.RecordSize.{recordNumbers, recordBytes}
+use Rattle.record_places.specs.Places.{generatorCountAt, goneAt, agreedAt, linkAt, lossAt, kwAt, rankAt, injectedAt, unaccountedAt, lostAt, generatorSetOffAt, inadvertentAt, chargeAt, generatorDrawnAt, lapsedAt, bankAt, pendingAt, meteredAt, consumerSetOffAt, shortfallAt, consumerDrawnAt, suppliedAt, outstandingAt}
 
 -- n numbers from place `at` on
 abbrev pub run : List ℕ → ℕ → ℕ → List ℕ
@@ -40,7 +42,7 @@ module _ (ws : List ℕ) where
   in-head : (n at i : ℕ) → i < n → at + i < 7 → getD (take 7 ws) (at + i) 0 ≡ getD (take n (drop at ws)) i 0
   in-head n at i h l = getD-take 7 ws (at + i) 0 l ∙ sym (getD-take n (drop at ws) i 0 h ∙ getD-drop at ws i 0)
 
-  pub terms-at : recordOf ws .terms ≡ record { generators = getD (run ws 4 0) 0 0; consumers = getD (run ws 4 0) 1 0; rate = getD (run ws 4 0) 2 0; cycle = getD (run ws 4 0) 3 0 }
+  pub terms-at : recordOf ws .terms ≡ record { generators = getD (run ws 4 generatorCountAt) 0 0; consumers = getD (run ws 4 generatorCountAt) 1 0; rate = getD (run ws 4 generatorCountAt) 2 0; cycle = getD (run ws 4 generatorCountAt) 3 0 }
   unfolding recordOf fromRuns runLengths cut
   terms-at =
       λ i. record {
@@ -50,39 +52,39 @@ module _ (ws : List ℕ) where
         cycle = in-head 4 0 3 (omega arith) (omega arith) i;
       }
 
-  pub counts-at : recordOf ws .counts ≡ record { gone = getD (run ws 3 4) 0 0; blocks = getD (run ws 3 4) 1 0; month = getD (run ws 3 4) 2 0 }
+  pub counts-at : recordOf ws .counts ≡ record { gone = getD (run ws 3 goneAt) 0 0; unitblocks = getD (run ws 3 goneAt) 1 0; monthblocks = getD (run ws 3 goneAt) 2 0 }
   unfolding recordOf fromRuns runLengths cut
   counts-at =
       λ i. record {
         gone = in-head 3 4 0 (omega arith) (omega arith) i;
-        blocks = in-head 3 4 1 (omega arith) (omega arith) i;
-        month = in-head 3 4 2 (omega arith) (omega arith) i;
+        unitblocks = in-head 3 4 1 (omega arith) (omega arith) i;
+        monthblocks = in-head 3 4 2 (omega arith) (omega arith) i;
       }
 
-  pub agreed-at : (rows : List ℕ) → rows ≡ run ws 24 7 → record { kind = columnOf rows 0; installed = columnOf rows 1; contracted = columnOf rows 2 } ≡ recordOf ws .agreed
+  pub agreed-at : (rows : List ℕ) → rows ≡ run ws 24 agreedAt → record { kind = columnOf rows 0; installed = columnOf rows 1; contracted = columnOf rows 2 } ≡ recordOf ws .agreed
   unfolding recordOf fromRuns runLengths cut
   agreed-at rows e = λ i. record { kind = columnOf (e i) 0; installed = columnOf (e i) 1; contracted = columnOf (e i) 2 }
 
-  pub links-at : recordOf ws .links ≡ record { link = run ws 128 31; loss = run ws 128 159 }
+  pub links-at : recordOf ws .links ≡ record { link = run ws 128 linkAt; loss = run ws 128 lossAt }
   unfolding recordOf fromRuns runLengths total
   links-at = λ i. record { link = cut-at runLengths ws 2 i; loss = cut-at runLengths ws 3 i }
 
-  pub schedule-at : recordOf ws .schedule ≡ record { kw = run ws 128 287; rank = run ws 128 415 }
+  pub schedule-at : recordOf ws .schedule ≡ record { kw = run ws 128 kwAt; rank = run ws 128 rankAt }
   unfolding recordOf fromRuns runLengths total
   schedule-at = λ i. record { kw = cut-at runLengths ws 4 i; rank = cut-at runLengths ws 5 i }
 
   pub generators-at : recordOf ws .generators ≡
       record {
-        injected = run ws 8 543;
-        unaccounted = run ws 8 551;
-        lost = run ws 8 559;
-        setoff = run ws 8 567;
-        inadvertent = run ws 8 575;
-        charge = run ws 8 583;
-        drawn = run ws 8 591;
-        lapsed = run ws 8 599;
-        bank = run ws 8 607;
-        pending = run ws 8 615;
+        injected = run ws 8 injectedAt;
+        unaccounted = run ws 8 unaccountedAt;
+        lost = run ws 8 lostAt;
+        setoff = run ws 8 generatorSetOffAt;
+        inadvertent = run ws 8 inadvertentAt;
+        charge = run ws 8 chargeAt;
+        drawn = run ws 8 generatorDrawnAt;
+        lapsed = run ws 8 lapsedAt;
+        bank = run ws 8 bankAt;
+        pending = run ws 8 pendingAt;
       }
   unfolding recordOf fromRuns runLengths total
   generators-at =
@@ -101,12 +103,12 @@ module _ (ws : List ℕ) where
 
   pub consumers-at : recordOf ws .consumers ≡
       record {
-        metered = run ws 16 623;
-        setoff = run ws 16 639;
-        shortfall = run ws 16 655;
-        drawn = run ws 16 671;
-        supplied = run ws 16 687;
-        outstanding = run ws 16 703;
+        metered = run ws 16 meteredAt;
+        setoff = run ws 16 consumerSetOffAt;
+        shortfall = run ws 16 shortfallAt;
+        drawn = run ws 16 consumerDrawnAt;
+        supplied = run ws 16 suppliedAt;
+        outstanding = run ws 16 outstandingAt;
       }
   unfolding recordOf fromRuns runLengths total
   consumers-at =
@@ -124,7 +126,7 @@ abbrev pub termsRun : Terms → List ℕ
 termsRun t = t .generators ∷ t .consumers ∷ t .rate ∷ t .cycle ∷ []
 
 abbrev pub countsRun : Counts → List ℕ
-countsRun t = t .gone ∷ t .blocks ∷ t .month ∷ []
+countsRun t = t .gone ∷ t .unitblocks ∷ t .monthblocks ∷ []
 
 abbrev pub agreedRun : Agreed → List ℕ
 agreedRun t = pairs 8 3 (agreedOf t)
@@ -153,7 +155,7 @@ words-parts r = simp append-assoc
 -- The record's bytes s became t: the numbers ws stand in it from place `from` up to place `to`, behind what stood before them.
 pub record Laid (from to : ℕ) (ws s t : List ℕ) : Type 0 where
   pub put : Put 8 from to ws s t
-  pub size : length t ≡ 5752
+  pub size : length t ≡ recordBytes
 
 -- a run of so many numbers
 pub laid-run : {at n : ℕ} {ws s t : List ℕ} → length ws ≡ n → Laid at (at + length ws) ws s t → Laid at (at + n) ws s t
@@ -165,7 +167,7 @@ laid-then p q = record { put = put-then (p .put) (q .put); size = q .size }
 pub laid-last : {from to : ℕ} {xs s t : List ℕ} → Laid from to xs s t → Laid from to (xs ++ []) s t
 laid-last {from} {to} {xs} p = rw append-nil p
 
-pub laid-all : {ws s t : List ℕ} → Laid 0 719 ws s t → t ≡ encode 8 ws
+pub laid-all : {ws s t : List ℕ} → Laid 0 recordNumbers ws s t → t ≡ encode 8 ws
 laid-all p = put-all (p .put) (p .size)
 
 -- ---- kind, installed and contracted side by side

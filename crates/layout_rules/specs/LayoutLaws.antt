@@ -8,7 +8,7 @@ use lib.Seq.{length-take-le}
 use Rattle.lists.specs.Tables.{table, is-table, getD-table, table-bound}
 use Rattle.lists.specs.Pairs.{place, cell, pairs, joined}
 use Rattle.lists.specs.PairsLaws.{place-in, place-all, cell-in, pairs-table}
-use Rattle.codec.specs.Bytes.{encode, decode}
+use Rattle.codec.specs.Bytes.{encode}
 use Rattle.codec.specs.BytesLaws.{Below, below-append, length-encode, length-decode, decode-encode, encode-decode}
 use Rattle.record.specs.Book.{Book, splitOfInjected, splitOfMetered}
 use Rattle.record.specs.Shape.{Shape, record-kept}
@@ -19,7 +19,9 @@ use Rattle.record.specs.Words.{agreedOf, runs, runLengths, total, wordCount, wo
 use Rattle.record.specs.declared.Record.{Record}
 use Rattle.record.specs.declared.GeneratorTerms.{GeneratorTerms}
 use Rattle.record.specs.declared.ConsumerTerms.{ConsumerTerms}
-use Rattle.record.specs.WordsLaws.{words-719, length-words, record-of-words}
+use Rattle.record.specs.WordsLaws.{words-count, length-words, record-of-words}
+use Rattle.record_places.specs.RecordSize.{recordNumbers, recordBytes, wordsIn}
+use Rattle.layout_rules.specs.OnBytes.{recordIn}
 
 -- ---- the numbers of a record made of numbers
 
@@ -60,7 +62,7 @@ module _ (a : List ℕ) (e : length a ≡ 24) where
       pairs-table 8 3 _ ∙
       sym (is-table 0 24 _ a e (λ k l. sym (agreed-place (k / 3) (k % 3) (omega arith) (omega arith) ∙ ap (λ (i : ℕ). getD a i 0) (omega arith))))
 
-module _ (ws : List ℕ) (e : length ws ≡ 719) where
+module _ (ws : List ℕ) (e : length ws ≡ recordNumbers) where
   runs-back : runs (recordOf ws) ≡ cut runLengths ws
   unfolding runs recordOf fromRuns cut runLengths total column
   runs-back =
@@ -69,16 +71,16 @@ module _ (ws : List ℕ) (e : length ws ≡ 719) where
 
   pub words-of-record : words (recordOf ws) ≡ ws
   unfolding words wordCount
-  words-of-record = ap joined runs-back ∙ joined-cut runLengths ws (e ∙ sym words-719)
+  words-of-record = ap joined runs-back ∙ joined-cut runLengths ws (e ∙ sym words-count)
 
 -- the record's bytes, whatever they are, are the bytes of the record read from them
-pub bytes-of-record : (s : List ℕ) → length s ≡ 5752 → Below 256 s → encode 8 (words (recordOf (decode 8 719 s))) ≡ s
-bytes-of-record s e h = ap (encode 8) (words-of-record (decode 8 719 s) (length-decode 8 719 s)) ∙ encode-decode 8 719 s e h
+pub bytes-of-record : (s : List ℕ) → length s ≡ recordBytes → Below 256 s → encode 8 (words (recordIn s)) ≡ s
+bytes-of-record s e h = ap (encode 8) (words-of-record (wordsIn s) (length-decode 8 recordNumbers s)) ∙ encode-decode 8 recordNumbers s e h
 
 -- ---- a stored record read back
 
-pub bytes-of-stored : (b : Book) → length (encode 8 (words (stored b))) ≡ 5752
-bytes-of-stored b = omega (arith, length-encode 8 (words (stored b)), length-words b, words-719)
+pub bytes-of-stored : (b : Book) → length (encode 8 (words (stored b))) ≡ recordBytes
+bytes-of-stored b = omega (arith, length-encode 8 (words (stored b)), length-words b, words-count)
 
 -- every number of every list is below b
 data AllBelow (b : ℕ) : List (List ℕ) → Type 0 where
@@ -113,7 +115,7 @@ module _ (b : Book) (f : Facts b) where
   consumer-low : (v : ConsumerTerms → ℕ) → ((x : ConsumerTerms) → v x ≤ splitOfMetered x) → Below (mostFigure + 1) (table 16 (λ c. v (b .con c)))
   consumer-low v h = below-table 16 (λ c. v (b .con c)) (λ c. omega (arith, h (b .con c), f .con c .equation, metered-most b f c))
 
-  head-low : Below (mostFigure + 1) (b .plan .G ∷ b .plan .C ∷ b .rate ∷ b .cycle ∷ b .gone ∷ b .blocks ∷ b .month ∷ [])
+  head-low : Below (mostFigure + 1) (b .plan .G ∷ b .plan .C ∷ b .rate ∷ b .cycle ∷ b .gone ∷ b .unitblocks ∷ b .monthblocks ∷ [])
   head-low zero = omega (arith, f .counts .G-high)
   head-low (suc zero) = omega (arith, f .counts .C-high)
   head-low (suc (suc zero)) = omega (arith, f .counts .rate-high)
@@ -154,15 +156,15 @@ module _ (b : Book) (f : Facts b) where
   words-low i = omega (arith, below-joined (omega arith) runs-low i)
 
   -- a stored record is read back from its bytes
-  pub record-of-bytes : recordOf (decode 8 719 (encode 8 (words (stored b)))) ≡ stored b
+  pub record-of-bytes : recordIn (encode 8 (words (stored b))) ≡ stored b
   record-of-bytes =
       let low : Below (256 ^ 8) (words (stored b)) = λ i. omega (arith, words-low i) in
-      let size : length (words (stored b)) ≡ 719 = length-words b ∙ words-719 in
+      let size : length (words (stored b)) ≡ recordNumbers = length-words b ∙ words-count in
       ap recordOf (rw size at (decode-encode 8 (words (stored b)) low)) ∙ record-of-words b
 
 -- a record of the right shape whose numbers have 64 bits is read back from its bytes
-pub read-back : (r : Record) → Shape r → Below (256 ^ 8) (words r) → recordOf (decode 8 719 (encode 8 (words r))) ≡ r
+pub read-back : (r : Record) → Shape r → Below (256 ^ 8) (words r) → recordIn (encode 8 (words r)) ≡ r
 read-back r s low =
-    let size : length (words r) ≡ 719 = rw (record-kept r s) at (length-words (figures r) ∙ words-719) in
+    let size : length (words r) ≡ recordNumbers = rw (record-kept r s) at (length-words (figures r) ∙ words-count) in
     let back : recordOf (words r) ≡ r = rw (record-kept r s) at (record-of-words (figures r)) in
     ap recordOf (rw size at (decode-encode 8 (words r) low)) ∙ back

@@ -4,7 +4,8 @@ use mathlib.Core.List.{List}
 use mathlib.Core.Path.{_≡_}
 use lib.Dec.{eqb}
 use Rattle.lists.specs.Choice.{if_then_else_}
-use Rattle.codec.specs.Bytes.{encode, decode}
+use Rattle.codec.specs.Bytes.{encode}
+use Rattle.record_places.specs.RecordSize.{wordsIn}
 use Rattle.record.specs.Words.{words, recordOf}
 use Rattle.delivery_rules.specs.Plan.{Plan}
 use Rattle.record.specs.Book.{Book}
@@ -13,14 +14,14 @@ use Rattle.record.specs.Called.{Rule, numberOn, outputAfter}
 use Rattle.record.specs.declared.Record.{Record}
 
 -- the record that bytes hold, its plan and its figures
-unfoldable pub recordIn : List ℕ → Record
-recordIn bytes = recordOf (decode 8 719 bytes)
+abbrev pub recordIn : List ℕ → Record
+recordIn bytes = recordOf (wordsIn bytes)
 
 abbrev pub planIn : List ℕ → Plan
-planIn bytes = planOf (recordOf (decode 8 719 bytes))
+planIn bytes = planOf (recordIn bytes)
 
 abbrev pub bookIn : List ℕ → Book
-bookIn bytes = figures (recordOf (decode 8 719 bytes))
+bookIn bytes = figures (recordIn bytes)
 
 -- the bytes after a call: the numbers that it gave where it was accepted, else as they were
 unfoldable pub bytesAfter : (number : ℕ) (given bytes : List ℕ) → List ℕ
@@ -29,5 +30,5 @@ bytesAfter number given bytes = if eqb number 0 then encode 8 given else bytes
 -- The call by the rule on the record that the bytes hold, with the output slice lent, returned the number and left bytes′ and out′.
 pub record CalledOn (rule : Rule) (bytes lent : List ℕ) (number : ℕ) (bytes′ out′ : List ℕ) : Type 0 where
   pub number-is : number ≡ numberOn rule (recordIn bytes)
-  pub record-is : bytes′ ≡ bytesAfter number (words (stored (rule .after (figures (recordIn bytes))))) bytes
+  pub record-is : bytes′ ≡ bytesAfter number (words (stored (rule .after (bookIn bytes)))) bytes
   pub output-is : out′ ≡ outputAfter rule (recordIn bytes) lent

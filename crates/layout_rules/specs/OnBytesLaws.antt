@@ -11,12 +11,12 @@ use Rattle.record.specs.Stored.{figures, stored}
 use Rattle.record.specs.Called.{Rule, numberOn, recordAfter, Called}
 use Rattle.record.specs.CalledLaws.{Keeps, accepted-sound, number-sound, record-facts, record-accepted, record-refused, output-accepted, output-refused}
 use Rattle.record.specs.declared.Record.{Record}
-use Rattle.layout_rules.specs.OnBytes.{recordIn, bytesAfter, CalledOn}
+use Rattle.layout_rules.specs.OnBytes.{recordIn, bytesAfter, CalledOn, bookIn}
 use Rattle.layout_rules.specs.LayoutLaws.{record-of-bytes}
 
 module _ (rule : Rule) (bytes lent : List ℕ) where
   pub on-accepted : {bytes′ out : List ℕ} {n : ℕ} → n ≡ 0 → numberOn rule (recordIn bytes) ≡ 0 →
-      bytes′ ≡ encode 8 (words (stored (rule .after (figures (recordIn bytes))))) → out ≡ rule .output (figures (recordIn bytes)) → CalledOn rule bytes lent n bytes′ out
+      bytes′ ≡ encode 8 (words (stored (rule .after (bookIn bytes)))) → out ≡ rule .output (bookIn bytes) → CalledOn rule bytes lent n bytes′ out
   unfolding bytesAfter
   on-accepted q z e o =
       record { number-is = q ∙ sym z; record-is = rw (eq-eqb _ 0 q) e; output-is = o ∙ sym (output-accepted rule (recordIn bytes) lent z) }
@@ -29,7 +29,7 @@ module _ (rule : Rule) (bytes lent : List ℕ) where
 -- the call on a record, made on its bytes
 pub on-struct : {rule : Rule} {bytes lent bytes′ out : List ℕ} {n : ℕ} (r after : Record) → Keeps rule → recordIn bytes ≡ r → after ≡ recordIn bytes′ →
     CalledOn rule bytes lent n bytes′ out → Called rule r lent n after out
-unfolding recordIn bytesAfter
+unfolding bytesAfter
 on-struct {rule} {bytes} {lent} {bytes′} {out} {n} r after keeps e loaded c =
     subst (λ (x : Record). Called rule x lent n after out) e
     (record { number-is = c .number-is; record-is = loaded ∙ go (eqb n 0) refl; output-is = c .output-is })

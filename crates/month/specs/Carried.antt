@@ -4,16 +4,15 @@ use mathlib.Core.Path.{_≡_}
 use mathlib.Core.Bool.{true}
 use mathlib.Core.List.{List}
 use lib.ListN.{length}
-use Rattle.codec.specs.Bytes.{decode}
 use Rattle.record.specs.Book.{Book}
 use Rattle.record.specs.Stored.{figures}
 use Rattle.record.specs.Sound.{sound}
-use Rattle.record.specs.Words.{recordOf}
 use Rattle.record.specs.declared.Record.{Record}
 use Rattle.record.specs.declared.Answer.{Answer}
-use Rattle.layout_rules.specs.OnBytes.{bookIn}
+use Rattle.layout_rules.specs.OnBytes.{bookIn, recordIn}
 use Rattle.unit.specs.Calls.{Call, bookAfter, bookAnswers}
 use Rattle.report_rules.specs.Display.{firstRefused}
+use Rattle.record_places.specs.RecordSize.{recordBytes}
 
 -- r is a sound record that holds the figures of b
 pub record Holds (r : Record) (b : Book) : Type 0 where
@@ -30,9 +29,9 @@ pub record Carried (b : Book) (ks : List Call) (a : Answer) : Type 0 where
 
 -- the bytes hold a sound record
 pub record Ready (bytes : List ℕ) : Type 0 where
-  pub whole : length bytes ≡ 5752
+  pub whole : length bytes ≡ recordBytes
   pub sound-is : sound (bookIn bytes) ≡ true
 
 -- the number that was returned, and the record that was left in the bytes
 abbrev pub answered : ℕ → List ℕ → Answer
-answered number bytes = record { number = number; after = recordOf (decode 8 719 bytes) }
+answered number bytes = record { number = number; after = recordIn bytes }

@@ -22,6 +22,7 @@ use Rattle.unit.specs.Calls.{Call, ruleOf, next, bookAfter, bookAnswers}
 use Rattle.unit.specs.Demand3Proof.{call-keeps}
 use Rattle.report_rules.specs.Display.{firstRefused}
 use Rattle.month.specs.Carried.{Holds, Carried, Ready, answered}
+use Rattle.record_places.specs.RecordSize.{recordBytes}
 
 -- ---- one call
 
@@ -53,7 +54,6 @@ module _ (k : Call) {r : Record} {lent out′ : List ℕ} {a : Answer} (s : soun
 
 -- the same on the record's bytes
 pub carried-on : (k : Call) {bytes lent bytes′ out : List ℕ} {n : ℕ} → Ready bytes → CalledOn (ruleOf k) bytes lent n bytes′ out → Carried (bookIn bytes) (k ∷ []) (answered n bytes′)
-unfolding recordIn
 carried-on k {bytes} {lent} {bytes′} {out} {n} q h = carried-one k {a = answered n bytes′} (q .sound-is) (on-struct (recordIn bytes) (recordIn bytes′) (call-keeps k) refl refl h)
 
 -- ---- lists of calls
@@ -112,5 +112,5 @@ module _ {b : Book} {ks : List Call} {a : Answer} (h : Carried b ks a) where
       }
 
 -- an accepted list leaves a sound record
-pub carried-ready : {b : Book} {ks : List Call} {n : ℕ} {bytes : List ℕ} → Carried b ks (answered n bytes) → n ≡ 0 → length bytes ≡ 5752 → Ready bytes
+pub carried-ready : {b : Book} {ks : List Call} {n : ℕ} {bytes : List ℕ} → Carried b ks (answered n bytes) → n ≡ 0 → length bytes ≡ recordBytes → Ready bytes
 carried-ready h z whole = record { whole = whole; sound-is = rw (h .holds z .is) (h .holds z .sound-is) }

@@ -6,16 +6,14 @@ use native.Mathlib.Omega.{arith}
 use borrow.Author.Tests.{eq-eqb}
 use lib.ListN.{length, drop, getD, length-drop}
 use lib.Seq.{drop-cons}
-use Rattle.codec.specs.Bytes.{decode}
 use Rattle.record.specs.Book.{Book}
 use Rattle.record.specs.Stored.{figures, stored}
 use Rattle.record.specs.Sound.{sound}
-use Rattle.record.specs.Words.{recordOf}
 use Rattle.record.specs.SoundLaws.{Facts, facts-sound, facts-cut}
 use Rattle.record.specs.StoredLaws.{figures-stored}
 use Rattle.record.specs.declared.Record.{Record}
 use Rattle.record.specs.declared.Answer.{Answer}
-use Rattle.layout_rules.specs.OnBytes.{bookIn, CalledOn}
+use Rattle.layout_rules.specs.OnBytes.{bookIn, CalledOn, recordIn}
 use Rattle.agreement_rules.specs.Opening.{openingRefusal, opened, Opened}
 use Rattle.agreement_rules.specs.OpeningLaws.{accepted-permitted, opened-facts}
 use Rattle.agreement_rules.specs.Schedule.{scheduleRule}
@@ -27,6 +25,7 @@ use Rattle.agreement_rules.specs.OpenedOn.{OpenedOn}
 use Rattle.opening.specs.OpenedOnLaws.{opened-back}
 use Rattle.month.specs.Carried.{Holds, Carried, Ready, answered}
 use Rattle.month.specs.CarriedLaws.{carried-on, carried-none, carried-then, carried-stop, carried-ready}
+use Rattle.record_places.specs.RecordSize.{recordBytes}
 
 -- ---- agreement A
 
@@ -53,8 +52,8 @@ unfolding bookAnswers firstRefused
 schedule-first = rw (eq-eqb (ruleOf scheduleA .refusal (opened agreementA)) 0 schedule-accepted)
 
 -- the record that agreement A starts with, in the bytes
-pub agreement-held : {s s₁ s₂ : List ℕ} {n m : ℕ} → OpenedOn agreementA s n s₁ → length s₁ ≡ 5752 → CalledOn (scheduleRule (100 ∷ 200 ∷ []) (1 ∷ 1 ∷ [])) s₁ [] m s₂ []
-    → Holds (recordOf (decode 8 719 s₂)) (bookAfter (opened agreementA) (scheduleA ∷ []))
+pub agreement-held : {s s₁ s₂ : List ℕ} {n m : ℕ} → OpenedOn agreementA s n s₁ → length s₁ ≡ recordBytes → CalledOn (scheduleRule (100 ∷ 200 ∷ []) (1 ∷ 1 ∷ [])) s₁ [] m s₂ []
+    → Holds (recordIn s₂) (bookAfter (opened agreementA) (scheduleA ∷ []))
 unfolding ruleOf
 agreement-held {s} {s₁} {s₂} {n} {m} o whole h =
     let q = opened-held (opened-back o (o .number-is ∙ opening-accepted) refl) in
@@ -92,7 +91,7 @@ entering-start s vs q = record { within = omega arith; ready = q; rest = λ a h.
 
 module _ {start vs at : List ℕ} {i : ℕ} (h : Entering start vs at i) where
   module _ (s : List ℕ) {n : ℕ} (l : 2 < length vs - i) (k : Carried (bookIn at) (block (getD vs i 0 ∷ []) (getD vs (i + 1) 0 ∷ getD vs (i + 2) 0 ∷ []) 11 ∷ []) (answered n s)) where
-    pub entering-step : n ≡ 0 → length s ≡ 5752 → Entering start vs s (i + 3)
+    pub entering-step : n ≡ 0 → length s ≡ recordBytes → Entering start vs s (i + 3)
     entering-step z whole =
         record {
           within = omega arith;
@@ -111,11 +110,11 @@ module _ {start vs at : List ℕ} {i : ℕ} (h : Entering start vs at i) where
 scheduled : {r : Record} → Holds r (bookAfter (opened agreementA) (scheduleA ∷ [])) → Carried (opened agreementA) (scheduleA ∷ []) (record { number = 0; after = r })
 scheduled {r} q = record { number-is = sym schedule-first; holds = λ z. q }
 
-module _ (s : List ℕ) (q : Holds (recordOf (decode 8 719 s)) (bookAfter (opened agreementA) (scheduleA ∷ []))) where
-  pub month-ready : length s ≡ 5752 → Ready s
+module _ (s : List ℕ) (q : Holds (recordIn s) (bookAfter (opened agreementA) (scheduleA ∷ []))) where
+  pub month-ready : length s ≡ recordBytes → Ready s
   month-ready whole = record { whole = whole; sound-is = ap sound (q .is) ∙ q .sound-is }
 
-  pub month-carried : (vs s′ : List ℕ) {n : ℕ} {after : Record} → Carried (bookIn s) (blocks vs ++ (closing 9 ∷ [])) (answered n s′) → after ≡ recordOf (decode 8 719 s′)
+  pub month-carried : (vs s′ : List ℕ) {n : ℕ} {after : Record} → Carried (bookIn s) (blocks vs ++ (closing 9 ∷ [])) (answered n s′) → after ≡ recordIn s′
       → Carried (opened agreementA) (calls vs) (record { number = n; after = after })
   unfolding calls
   month-carried vs s′ k loaded = rw loaded (carried-then (scheduled q) refl k)

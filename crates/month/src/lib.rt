@@ -4,20 +4,19 @@
 ghost use mathlib.Core.Path.{_≡_};
 ghost use mathlib.Core.List.{[], _∷_, _++_};
 ghost use lib.ListN.{length};
-ghost use Rattle.codec.specs.Bytes.{decode};
-ghost use Rattle.record.specs.Words.{recordOf};
-ghost use Rattle.layout_rules.specs.OnBytes.{bookIn};
+ghost use Rattle.layout_rules.specs.OnBytes.{bookIn, recordIn};
 ghost use Rattle.agreement_rules.specs.Opening.{opened};
 ghost use Rattle.unit.specs.Calls.{Call, bookAfter};
 ghost use Rattle.unit.specs.AgreementA.{agreementA, scheduleA};
 ghost use Rattle.report_rules.specs.Display.{blocks, calls};
 ghost use Rattle.month.specs.Carried.{Holds, Carried, Ready, answered};
+ghost use Rattle.record_places.specs.RecordSize.{recordBytes};
 use record::Answer;
 
 // Agreement A, opened and scheduled: no number applies to either call, so neither can be refused.
 fn agreement_a(s: &mut [u8])
-    requires { ⌜ length (now s) ≡ 5752 ⌝ }
-    ensures { λ _. ⌜ Holds (recordOf (decode 8 719 (now (s .exit)))) (bookAfter (opened agreementA) (scheduleA ∷ [])) ⌝ }
+    requires { ⌜ length (now s) ≡ recordBytes ⌝ }
+    ensures { λ _. ⌜ Holds (recordIn (now (s .exit))) (bookAfter (opened agreementA) (scheduleA ∷ [])) ⌝ }
 {
     let generators = [1, 1_000, 800];
     let pairs = [1, 1, 1_000, 500];
@@ -78,7 +77,7 @@ fn enter_and_close(s: &mut [u8], values: &[u32]) -> u32
 pub fn month(values: &[u32]) -> Answer
     ensures { λ a. ⌜ Carried (opened agreementA) (calls (now (values .entry))) a ⌝ }
 {
-    let mut s = [0u8; 5752];
+    let mut s = [0u8; record_places::RECORD_BYTES];
     agreement_a(&mut s);
     let number = enter_and_close(&mut s, values);
     let after = loading::load(&s);

@@ -3,10 +3,8 @@ use Prim.Native.Nat.{ℕ}
 use mathlib.Core.List.{List}
 use mathlib.Core.Path.{_≡_, sym, ap, _∙_}
 use borrow.Author.Tests.{eq-eqb}
-use Rattle.codec.specs.Bytes.{decode}
-use Rattle.record.specs.Words.{recordOf}
 use Rattle.record.specs.declared.Record.{Record}
-use Rattle.layout_rules.specs.OnBytes.{bytesAfter}
+use Rattle.layout_rules.specs.OnBytes.{bytesAfter, recordIn}
 use Rattle.layout_rules.specs.LayoutLaws.{record-of-bytes}
 use Rattle.agreement_rules.specs.Opening.{Opening, openingRefusal, opened, Opened}
 use Rattle.agreement_rules.specs.OpeningLaws.{accepted-permitted, opened-facts}
@@ -14,10 +12,10 @@ use Rattle.agreement_rules.specs.StoringLaws.{opening-accepted}
 use Rattle.agreement_rules.specs.OpenedOn.{OpenedOn}
 
 -- the record of an accepted opening, read back from the bytes
-pub opened-back : {o : Opening} {bytes bytes′ : List ℕ} {n : ℕ} {r : Record} → OpenedOn o bytes n bytes′ → n ≡ 0 → r ≡ recordOf (decode 8 719 bytes′) → Opened o 0 r
+pub opened-back : {o : Opening} {bytes bytes′ : List ℕ} {n : ℕ} {r : Record} → OpenedOn o bytes n bytes′ → n ≡ 0 → r ≡ recordIn bytes′ → Opened o 0 r
 unfolding bytesAfter
 opened-back {o} {n = n} h z e =
     let accepted : openingRefusal o ≡ 0 = sym (h .number-is) ∙ z in
     let given = rw (eq-eqb n 0 z) at (h .record-is) in
     let back = record-of-bytes (opened o) (opened-facts o (accepted-permitted o accepted)) in
-    opening-accepted accepted (e ∙ ap (λ (b : List ℕ). recordOf (decode 8 719 b)) given ∙ back)
+    opening-accepted accepted (e ∙ ap (λ (b : List ℕ). recordIn b) given ∙ back)

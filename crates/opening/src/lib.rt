@@ -12,6 +12,7 @@ ghost use Rattle.agreement_rules.specs.Opening.{asked, opened, Opened, Permitte
 ghost use Rattle.agreement_rules.specs.Reading.{Threes};
 ghost use Rattle.agreement_rules.specs.Storing.{agreedFrom, linksFrom, firstSchedule};
 ghost use Rattle.agreement_rules.specs.OpenedOn.{OpenedOn};
+ghost use Rattle.record_places.specs.RecordSize.{recordBytes};
 
 fn agreed_from(n: usize, list: &[u32]) -> record::Agreed
     requires { ⌜ Threes (now list) n 0 ⌝ }
@@ -95,8 +96,8 @@ fn zero_record() -> record::Record
     };
     let counts = record::Counts {
         gone: 0,
-        blocks: 0,
-        month: 0,
+        unitblocks: 0,
+        monthblocks: 0,
     };
     let agreed = record::Agreed {
         kind: none,
@@ -129,7 +130,7 @@ fn store_opened(
     pair_list: &[u32],
     s: &mut [u8],
 )
-    requires { ⌜ Permitted (asked n m rate cycle gone (now «generator_list») (now «pair_list»)) × (length (now s) ≡ 5752) ⌝ }
+    requires { ⌜ Permitted (asked n m rate cycle gone (now «generator_list») (now «pair_list»)) × (length (now s) ≡ recordBytes) ⌝ }
     ensures { λ _. ⌜ now (s .exit) ≡ encode 8 (words (stored (opened (asked n m rate cycle gone (now («generator_list» .entry)) (now («pair_list» .entry)))))) ⌝ }
 {
     let terms = record::Terms {
@@ -141,8 +142,8 @@ fn store_opened(
     storing::store_terms(terms, s);
     let counts = record::Counts {
         gone: lists::wide(gone),
-        blocks: 0,
-        month: 0,
+        unitblocks: 0,
+        monthblocks: 0,
     };
     storing::store_counts(counts, s);
     let agreed = agreed_from(n, generator_list);
@@ -168,7 +169,7 @@ pub fn opening_on(
     pair_list: &[u32],
     s: &mut [u8],
 ) -> u32
-    requires { ⌜ length (now s) ≡ 5752 ⌝ }
+    requires { ⌜ length (now s) ≡ recordBytes ⌝ }
     ensures { λ r. ⌜ OpenedOn (asked generators consumers rate cycle gone (now («generator_list» .entry)) (now («pair_list» .entry))) (now (s .entry)) r (now (s .exit)) ⌝ }
 {
     let n = generators as usize;
@@ -193,7 +194,7 @@ pub fn opening(
 ) -> record::Answer
     ensures { λ a. ⌜ Opened (asked generators consumers rate cycle gone (now («generator_list» .entry)) (now («pair_list» .entry))) (a .number) (a .after) ⌝ }
 {
-    let mut s = [0u8; 5752];
+    let mut s = [0u8; record_places::RECORD_BYTES];
     let number = opening_on(
         generators,
         consumers,

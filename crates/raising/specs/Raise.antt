@@ -6,9 +6,9 @@ use lib.ListN.{length, getD}
 use Rattle.lists.specs.Sums.{sum}
 use Rattle.energy.specs.Limits.{mostFigure}
 use Rattle.arrays.specs.Bounds.{Moderate}
-use Rattle.codec.specs.Bytes.{decode}
 use Rattle.layout_rules.specs.Raised.{raised}
 use Rattle.layout_rules.specs.Replaced.{replaced}
+use Rattle.record_places.specs.RecordSize.{recordNumbers, recordBytes, wordsIn}
 
 -- ---- sums of a list of rows of m numbers that stands in xs from place `first` on
 
@@ -30,7 +30,7 @@ pub record OutputLists (numbers n m : ℕ) (out : List ℕ) : Type 0 where
 -- the bytes s became t: f i was added to the number at place `at i`, for each i below n
 pub record Raised (at : ℕ → ℕ) (n : ℕ) (f : ℕ → ℕ) (s t : List ℕ) : Type 0 where
   pub size : length t ≡ length s
-  pub is : decode 8 719 t ≡ raised at n f (decode 8 719 s)
+  pub is : wordsIn t ≡ raised at n f (wordsIn s)
 
 -- the numbers from place p on are at most b
 pub record Low (p b : ℕ) (ws : List ℕ) : Type 0 where
@@ -38,9 +38,9 @@ pub record Low (p b : ℕ) (ws : List ℕ) : Type 0 where
 
 -- n numbers of the record from place p on, with none that is more than b there or behind
 pub record Raisable (p n b : ℕ) (s : List ℕ) : Type 0 where
-  pub size : length s ≡ 5752
-  pub placed : p + n ≤ 719
-  pub low : Low p b (decode 8 719 s)
+  pub size : length s ≡ recordBytes
+  pub placed : p + n ≤ recordNumbers
+  pub low : Low p b (wordsIn s)
 
 -- a number that is no more than this has room for a sum of 16 figures
 abbrev pub mostRaised : ℕ
@@ -51,9 +51,9 @@ mostRaised = 16 * mostFigure
 -- the bytes s became t: the number at place `at i` is now f i, for each i below n
 pub record Replaced (at : ℕ → ℕ) (n : ℕ) (f : ℕ → ℕ) (s t : List ℕ) : Type 0 where
   pub size : length t ≡ length s
-  pub is : decode 8 719 t ≡ replaced at n f (decode 8 719 s)
+  pub is : wordsIn t ≡ replaced at n f (wordsIn s)
 
 -- n numbers of the record from place p on
 pub record Replaceable (p n : ℕ) (s : List ℕ) : Type 0 where
-  pub size : length s ≡ 5752
-  pub placed : p + n ≤ 719
+  pub size : length s ≡ recordBytes
+  pub placed : p + n ≤ recordNumbers

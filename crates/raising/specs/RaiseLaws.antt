@@ -8,32 +8,32 @@ use lib.ListN.{length, getD, set}
 use Rattle.lists.specs.Sums.{sum-cap}
 use Rattle.energy.specs.Limits.{mostFigure}
 use Rattle.arrays.specs.Bounds.{Moderate}
-use Rattle.codec.specs.Bytes.{decode}
 use Rattle.layout_rules.specs.Raised.{from, raised-none, raised-more, raised-other}
 use Rattle.layout_rules.specs.Replaced.{replaced-none, replaced-more}
 use Rattle.raising.specs.Raise.{rowSum, columnSum, Raised, Raisable, Replaced}
+use Rattle.record_places.specs.RecordSize.{recordNumbers, wordsIn}
 
 module _ {at f : ℕ → ℕ} {s : List ℕ} where
   pub none-raised : Raised at 0 f s s
-  none-raised = record { size = refl; is = sym (raised-none at f (decode 8 719 s)) }
+  none-raised = record { size = refl; is = sym (raised-none at f (wordsIn s)) }
 
   pub one-more : {i v : ℕ} {t u : List ℕ} → Raised at i f s t → v ≡ f i → length u ≡ length t →
-      decode 8 719 u ≡ set (decode 8 719 t) (at i) (getD (decode 8 719 t) (at i) 0 + v) → Raised at (i + 1) f s u
-  one-more {i} r w e d = record { size = e ∙ r .size; is = d ∙ rw (r .is, w) (sym (raised-more at f (decode 8 719 s) i)) }
+      wordsIn u ≡ set (wordsIn t) (at i) (getD (wordsIn t) (at i) 0 + v) → Raised at (i + 1) f s u
+  one-more {i} r w e d = record { size = e ∙ r .size; is = d ∙ rw (r .is, w) (sym (raised-more at f (wordsIn s) i)) }
 
   pub all-raised : {n i : ℕ} {t : List ℕ} → Raised at i f s t → i ≡ n → Raised at n f s t
   all-raised r e = rw (← e) r
 
   -- a number at no such place
-  pub not-raised : {i : ℕ} {t : List ℕ} (k : ℕ) → Raised at i f s t → ((j : ℕ) → j < i → k ≡ at j → ⊥) → getD (decode 8 719 t) k 0 ≡ getD (decode 8 719 s) k 0
-  not-raised {i} k r h = ap (λ (ws : List ℕ). getD ws k 0) (r .is) ∙ raised-other at f (decode 8 719 s) i k h
+  pub not-raised : {i : ℕ} {t : List ℕ} (k : ℕ) → Raised at i f s t → ((j : ℕ) → j < i → k ≡ at j → ⊥) → getD (wordsIn t) k 0 ≡ getD (wordsIn s) k 0
+  not-raised {i} k r h = ap (λ (ws : List ℕ). getD ws k 0) (r .is) ∙ raised-other at f (wordsIn s) i k h
 
 -- of numbers in a row, the next is low still
-pub next-low : {p n b i : ℕ} {f : ℕ → ℕ} {s t : List ℕ} → Raisable p n b s → Raised (from p) i f s t → getD (decode 8 719 t) (p + i) 0 ≤ b
+pub next-low : {p n b i : ℕ} {f : ℕ → ℕ} {s t : List ℕ} → Raisable p n b s → Raised (from p) i f s t → getD (wordsIn t) (p + i) 0 ≤ b
 next-low {p} {i = i} h r = omega (arith, not-raised (p + i) r (λ j l e. omega arith), h .low .at (p + i) (omega arith))
 
 -- numbers that start w places behind those that are raised
-pub next-list : {p n b k : ℕ} {f : ℕ → ℕ} {s t : List ℕ} (w m : ℕ) → k ≤ w → p + w + m ≤ 719 → Raisable p n b s → Raised (from p) k f s t → Raisable (p + w) m b t
+pub next-list : {p n b k : ℕ} {f : ℕ → ℕ} {s t : List ℕ} (w m : ℕ) → k ≤ w → p + w + m ≤ recordNumbers → Raisable p n b s → Raised (from p) k f s t → Raisable (p + w) m b t
 next-list w m l placed h r =
     record {
       size = r .size ∙ h .size;
@@ -60,10 +60,10 @@ row-within n m g h = omega (arith, mul-le-mul-right m h, suc-mul g m)
 
 module _ {at f : ℕ → ℕ} {s : List ℕ} where
   pub none-replaced : Replaced at 0 f s s
-  none-replaced = record { size = refl; is = sym (replaced-none at f (decode 8 719 s)) }
+  none-replaced = record { size = refl; is = sym (replaced-none at f (wordsIn s)) }
 
-  pub one-replaced : {i v : ℕ} {t u : List ℕ} → Replaced at i f s t → v ≡ f i → length u ≡ length t → decode 8 719 u ≡ set (decode 8 719 t) (at i) v → Replaced at (i + 1) f s u
-  one-replaced {i} r w e d = record { size = e ∙ r .size; is = d ∙ rw (r .is, w) (sym (replaced-more at f (decode 8 719 s) i)) }
+  pub one-replaced : {i v : ℕ} {t u : List ℕ} → Replaced at i f s t → v ≡ f i → length u ≡ length t → wordsIn u ≡ set (wordsIn t) (at i) v → Replaced at (i + 1) f s u
+  one-replaced {i} r w e d = record { size = e ∙ r .size; is = d ∙ rw (r .is, w) (sym (replaced-more at f (wordsIn s) i)) }
 
   pub all-replaced : {n i : ℕ} {t : List ℕ} → Replaced at i f s t → i ≡ n → Replaced at n f s t
   all-replaced r e = rw (← e) r

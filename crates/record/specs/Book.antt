@@ -12,8 +12,8 @@ pub record Book : Type 0 where
   pub cycle : ℕ
   -- months gone in the cycle; blocks of the unit, and of the month
   pub gone : ℕ
-  pub blocks : ℕ
-  pub month : ℕ
+  pub unitblocks : ℕ
+  pub monthblocks : ℕ
   -- the terms of both equations
   pub gen : ℕ → GeneratorTerms
   pub con : ℕ → ConsumerTerms

@@ -43,8 +43,8 @@ module _ (b : Book) where
       let p = b .plan in
       let inG : ℕ → Bool = λ g. ltb g (p .G) in
       let inC : ℕ → Bool = λ c. ltb c (p .C) in
-      countsSound (p .G) (p .C) (b .rate) (b .cycle) (b .gone) (b .blocks) (b .month) &&
+      countsSound (p .G) (p .C) (b .rate) (b .cycle) (b .gone) (b .unitblocks) (b .monthblocks) &&
       (all 8 (λ g. agreedSound (inG g) (p .kind g) (p .installed g) (p .contracted g) (scheduled p g)) &&
       all 8 (λ g. all 16 (λ c. pairSound (inG g && inC c) (p .link g c) (p .loss g c) (p .kw g c) (p .rank g c))) &&
-      all 8 (λ g. generatorSound (b .blocks) (inG g) (b .gen g)) &&
-      all 16 (λ c. consumerSound (b .blocks) (inC c) (b .con c)))
+      all 8 (λ g. generatorSound (b .unitblocks) (inG g) (b .gen g)) &&
+      all 16 (λ c. consumerSound (b .unitblocks) (inC c) (b .con c)))

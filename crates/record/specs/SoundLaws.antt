@@ -60,11 +60,11 @@ pub record ConsumerFacts (blocks : ℕ) (inside : Bool) (x : ConsumerTerms) : Ty
 
 -- what soundness says of every place, those beyond 8 and 16 too
 pub record Facts (b : Book) : Type 0 where
-  pub counts : CountsFacts (b .plan .G) (b .plan .C) (b .rate) (b .cycle) (b .gone) (b .blocks) (b .month)
+  pub counts : CountsFacts (b .plan .G) (b .plan .C) (b .rate) (b .cycle) (b .gone) (b .unitblocks) (b .monthblocks)
   pub agreed : (g : ℕ) → AgreedFacts (ltb g (b .plan .G)) (b .plan .kind g) (b .plan .installed g) (b .plan .contracted g) (scheduled (b .plan) g)
   pub pair : (g c : ℕ) → PairFacts (ltb g (b .plan .G) && ltb c (b .plan .C)) (b .plan .link g c) (b .plan .loss g c) (b .plan .kw g c) (b .plan .rank g c)
-  pub gen : (g : ℕ) → GeneratorFacts (b .blocks) (ltb g (b .plan .G)) (b .gen g)
-  pub con : (c : ℕ) → ConsumerFacts (b .blocks) (ltb c (b .plan .C)) (b .con c)
+  pub gen : (g : ℕ) → GeneratorFacts (b .unitblocks) (ltb g (b .plan .G)) (b .gen g)
+  pub con : (c : ℕ) → ConsumerFacts (b .unitblocks) (ltb c (b .plan .C)) (b .con c)
 
 -- every figure beyond the record's 8 and 16 places is 0
 pub record Cut (b : Book) : Type 0 where
@@ -329,13 +329,13 @@ module _ (b : Book) where
   pairAt g c = pairSound (ltb g (b .plan .G) && ltb c (b .plan .C)) (b .plan .link g c) (b .plan .loss g c) (b .plan .kw g c) (b .plan .rank g c)
 
   abbrev genAt : ℕ → Bool
-  genAt g = generatorSound (b .blocks) (ltb g (b .plan .G)) (b .gen g)
+  genAt g = generatorSound (b .unitblocks) (ltb g (b .plan .G)) (b .gen g)
 
   abbrev conAt : ℕ → Bool
-  conAt c = consumerSound (b .blocks) (ltb c (b .plan .C)) (b .con c)
+  conAt c = consumerSound (b .unitblocks) (ltb c (b .plan .C)) (b .con c)
 
   abbrev countsAt : Bool
-  countsAt = countsSound (b .plan .G) (b .plan .C) (b .rate) (b .cycle) (b .gone) (b .blocks) (b .month)
+  countsAt = countsSound (b .plan .G) (b .plan .C) (b .rate) (b .cycle) (b .gone) (b .unitblocks) (b .monthblocks)
 
   pub facts-sound : Facts b → sound b ≡ true
   unfolding sound
@@ -353,7 +353,7 @@ module _ (b : Book) where
     rest : Bool
     rest = all 8 agreedAt && all 8 (λ g. all 16 (pairAt g)) && all 8 genAt && all 16 conAt
 
-    counts : CountsFacts (b .plan .G) (b .plan .C) (b .rate) (b .cycle) (b .gone) (b .blocks) (b .month)
+    counts : CountsFacts (b .plan .G) (b .plan .C) (b .rate) (b .cycle) (b .gone) (b .unitblocks) (b .monthblocks)
     unfolding sound rest
     counts = counts-facts _ _ _ _ _ _ _ (and-left countsAt rest e)
 
@@ -409,19 +409,19 @@ module _ (b : Book) where
         go true l false k = beyond (inr (ltb-false c 16 k))
         go false l t k = beyond (inl (ltb-false g 8 l))
 
-    gen : (g : ℕ) → GeneratorFacts (b .blocks) (ltb g (b .plan .G)) (b .gen g)
+    gen : (g : ℕ) → GeneratorFacts (b .unitblocks) (ltb g (b .plan .G)) (b .gen g)
     gen g = go (ltb g 8) refl
       where
-        go : (t : Bool) → ltb g 8 ≡ t → GeneratorFacts (b .blocks) (ltb g (b .plan .G)) (b .gen g)
+        go : (t : Bool) → ltb g 8 ≡ t → GeneratorFacts (b .unitblocks) (ltb g (b .plan .G)) (b .gen g)
         go true l = generator-facts _ _ _ (all-at 8 genAt (parts 2) g (ltb-true g 8 l))
-        go false l = subst (GeneratorFacts (b .blocks) (ltb g (b .plan .G))) (sym (cut .gen g (ltb-false g 8 l))) (no-injection (b .blocks) (ltb g (b .plan .G)))
+        go false l = subst (GeneratorFacts (b .unitblocks) (ltb g (b .plan .G))) (sym (cut .gen g (ltb-false g 8 l))) (no-injection (b .unitblocks) (ltb g (b .plan .G)))
 
-    con : (c : ℕ) → ConsumerFacts (b .blocks) (ltb c (b .plan .C)) (b .con c)
+    con : (c : ℕ) → ConsumerFacts (b .unitblocks) (ltb c (b .plan .C)) (b .con c)
     con c = go (ltb c 16) refl
       where
-        go : (t : Bool) → ltb c 16 ≡ t → ConsumerFacts (b .blocks) (ltb c (b .plan .C)) (b .con c)
+        go : (t : Bool) → ltb c 16 ≡ t → ConsumerFacts (b .unitblocks) (ltb c (b .plan .C)) (b .con c)
         go true l = consumer-facts _ _ _ (all-at 16 conAt (parts 3) c (ltb-true c 16 l))
-        go false l = subst (ConsumerFacts (b .blocks) (ltb c (b .plan .C))) (sym (cut .con c (ltb-false c 16 l))) (no-consumption (b .blocks) (ltb c (b .plan .C)))
+        go false l = subst (ConsumerFacts (b .unitblocks) (ltb c (b .plan .C))) (sym (cut .con c (ltb-false c 16 l))) (no-consumption (b .unitblocks) (ltb c (b .plan .C)))
 
     pub sound-facts : Facts b
     sound-facts = record { counts = counts; agreed = agreed; pair = pair; gen = gen; con = con }

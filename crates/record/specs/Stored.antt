@@ -59,8 +59,8 @@ figures r =
       rate = r .terms .rate;
       cycle = r .terms .cycle;
       gone = r .counts .gone;
-      blocks = r .counts .blocks;
-      month = r .counts .month;
+      unitblocks = r .counts .unitblocks;
+      monthblocks = r .counts .monthblocks;
       gen = generatorAt (r .generators);
       con = consumerAt (r .consumers);
     }
@@ -97,7 +97,7 @@ stored b =
     let p = b .plan in
     record {
       terms = record { generators = p .G; consumers = p .C; rate = b .rate; cycle = b .cycle };
-      counts = record { gone = b .gone; blocks = b .blocks; month = b .month };
+      counts = record { gone = b .gone; unitblocks = b .unitblocks; monthblocks = b .monthblocks };
       agreed = record { kind = table 8 (p .kind); installed = table 8 (p .installed); contracted = table 8 (p .contracted) };
       links = record { link = pairs 8 16 (p .link); loss = pairs 8 16 (p .loss) };
       schedule = record { kw = pairs 8 16 (p .kw); rank = pairs 8 16 (p .rank) };
@@ -125,8 +125,8 @@ zeros =
       rate = 0;
       cycle = 0;
       gone = 0;
-      blocks = 0;
-      month = 0;
+      unitblocks = 0;
+      monthblocks = 0;
       gen = λ g. noInjection;
       con = λ c. noConsumption;
     })

@@ -115,8 +115,8 @@ figures-stored b cut =
       rate = b .rate;
       cycle = b .cycle;
       gone = b .gone;
-      blocks = b .blocks;
-      month = b .month;
+      unitblocks = b .unitblocks;
+      monthblocks = b .monthblocks;
       gen = generators-stored (b .gen) (cut .gen) i;
       con = consumers-stored (b .con) (cut .con) i;
     }

@@ -1,4 +1,4 @@
--- Document 01, "The record": its 719 numbers in their order. Assumes nothing.
+-- Document 01, "The record": its numbers in their order. Assumes nothing.
 use Prim.Native.Nat.{ℕ, zero, suc, _+_}
 use mathlib.Core.List.{List, [], _∷_}
 use lib.ListN.{getD, take, drop}
@@ -20,7 +20,7 @@ runs r =
     let n = r .counts in
     let x = r .generators in
     let y = r .consumers in
-    (t .generators ∷ t .consumers ∷ t .rate ∷ t .cycle ∷ n .gone ∷ n .blocks ∷ n .month ∷ []) ∷
+    (t .generators ∷ t .consumers ∷ t .rate ∷ t .cycle ∷ n .gone ∷ n .unitblocks ∷ n .monthblocks ∷ []) ∷
     pairs 8 3 (agreedOf (r .agreed)) ∷
     r .links .link ∷ r .links .loss ∷ r .schedule .kw ∷ r .schedule .rank ∷
     x .injected ∷ x .unaccounted ∷ x .lost ∷ x .setoff ∷ x .inadvertent ∷ x .charge ∷ x .drawn ∷ x .lapsed ∷ x .bank ∷ x .pending ∷
@@ -34,7 +34,7 @@ unfoldable pub total : List ℕ → ℕ
 total [] = 0
 total (n ∷ ns) = n + total ns
 
--- 719
+-- recordNumbers of crate record_places: the law words-count
 unfoldable pub wordCount : ℕ
 wordCount = total runLengths
 
@@ -54,7 +54,7 @@ fromRuns p =
     let at : ℕ → List ℕ = λ i. getD p i [] in
     record {
       terms = record { generators = getD head 0 0; consumers = getD head 1 0; rate = getD head 2 0; cycle = getD head 3 0 };
-      counts = record { gone = getD head 4 0; blocks = getD head 5 0; month = getD head 6 0 };
+      counts = record { gone = getD head 4 0; unitblocks = getD head 5 0; monthblocks = getD head 6 0 };
       agreed = record { kind = table 8 (λ g. cell 8 3 agreed g 0); installed = table 8 (λ g. cell 8 3 agreed g 1); contracted = table 8 (λ g. cell 8 3 agreed g 2) };
       links = record { link = at 2; loss = at 3 };
       schedule = record { kw = at 4; rank = at 5 };

@@ -1,5 +1,5 @@
--- The record's numbers are 719, and a stored record is read back from them. Assumes nothing.
-use Prim.Native.Nat.{ℕ, _<_}
+-- The record has as many numbers as its size says, and a stored record is read back from them. Assumes nothing.
+use Prim.Native.Nat.{ℕ, _+_, _<_}
 use mathlib.Core.Path.{_≡_, refl, ap, _∙_}
 use mathlib.Core.List.{List, [], _∷_}
 use native.Mathlib.Omega.{arith}
@@ -11,10 +11,24 @@ use Rattle.lists.specs.PairsLaws.{length-pairs, getD-pairs, cell-in, place-in}
 use Rattle.record.specs.Book.{Book}
 use Rattle.record.specs.Stored.{stored, storedGenerators, storedConsumers}
 use Rattle.record.specs.Words.{agreedOf, runs, runLengths, total, wordCount, words, cut, fromRuns, recordOf}
+use Rattle.record_places.specs.RecordSize.{recordNumbers}
+use Rattle.record_places.specs.Places.{generatorCountAt, agreedAt, linkAt, lossAt, kwAt, rankAt, injectedAt, unaccountedAt, lostAt, generatorSetOffAt, inadvertentAt, chargeAt, generatorDrawnAt, lapsedAt, bankAt, pendingAt, meteredAt, consumerSetOffAt, shortfallAt, consumerDrawnAt, suppliedAt, outstandingAt}
 
-pub words-719 : wordCount ≡ 719
+pub words-count : wordCount ≡ recordNumbers
 unfolding wordCount total runLengths
-words-719 = refl
+words-count = refl
+
+-- where runs of these lengths start, the first at `at`
+unfoldable pub starts : ℕ → List ℕ → List ℕ
+starts at [] = []
+starts at (n ∷ ns) = at ∷ starts (at + n) ns
+
+-- each list of the record starts where its name says
+pub run-starts : starts 0 runLengths ≡
+    generatorCountAt ∷ agreedAt ∷ linkAt ∷ lossAt ∷ kwAt ∷ rankAt ∷ injectedAt ∷ unaccountedAt ∷ lostAt ∷ generatorSetOffAt ∷ inadvertentAt ∷
+    chargeAt ∷ generatorDrawnAt ∷ lapsedAt ∷ bankAt ∷ pendingAt ∷ meteredAt ∷ consumerSetOffAt ∷ shortfallAt ∷ consumerDrawnAt ∷ suppliedAt ∷ outstandingAt ∷ []
+unfolding starts runLengths
+run-starts = refl
 
 -- runs of the given lengths
 abbrev pub Sized : List ℕ → List (List ℕ) → Type 0

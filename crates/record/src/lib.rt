@@ -11,8 +11,8 @@ pub struct Terms {
 // months gone in the cycle, blocks of the unit, blocks of the month
 pub struct Counts {
     pub gone: u64,
-    pub blocks: u64,
-    pub month: u64,
+    pub unitblocks: u64,
+    pub monthblocks: u64,
 }
 
 // what is agreed of each generator

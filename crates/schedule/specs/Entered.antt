@@ -8,7 +8,7 @@ use lib.ListN.{length, getD, set}
 use Rattle.lists.specs.Tables.{table, is-table}
 use Rattle.lists.specs.Pairs.{cell, pairs}
 use Rattle.lists.specs.PairsLaws.{length-pairs}
-use Rattle.codec.specs.Bytes.{encode, decode}
+use Rattle.codec.specs.Bytes.{encode}
 use Rattle.codec.specs.BytesLaws.{Below, length-decode}
 use Rattle.record.specs.Called.{numberOn}
 use Rattle.record.specs.CalledLaws.{number-sound, record-facts, accepted-sound}
@@ -38,6 +38,8 @@ use Rattle.agreement_rules.specs.Storing.{scheduleFrom, withSchedule}
 use Rattle.agreement_rules.specs.StoringLaws.{scheduled-record}
 use Rattle.raising.specs.Raise.{Replaced}
 use Rattle.schedule.specs.Accepted.{Accepted}
+use Rattle.record_places.specs.RecordSize.{recordNumbers, recordBytes, wordsIn}
+use Rattle.record_places.specs.Places.{linkAt, kwAt, rankAt}
 
 -- a pair list is what stands at its 128 places
 whole-list : (n m : ℕ) (xs : List ℕ) → table 128 (λ i. getD (pairs 8 16 (cell n m xs)) i 0) ≡ pairs 8 16 (cell n m xs)
@@ -45,13 +47,13 @@ whole-list n m xs = sym (is-table 0 128 _ (pairs 8 16 (cell n m xs)) (length-pai
 
 module _ (s kws ranks : List ℕ) where
   abbrev ws : List ℕ
-  ws = decode 8 719 s
+  ws = wordsIn s
 
   abbrev r : Record
   r = recordOf ws
 
   -- the number of a schedule on a sound record, by what was read of it
-  pub number-read : {t : Terms} {a : Agreed} {link : List ℕ} {x : ℕ} → sound (figures r) ≡ true → t ≡ r .terms → a ≡ r .agreed → link ≡ run ws 128 31 →
+  pub number-read : {t : Terms} {a : Agreed} {link : List ℕ} {x : ℕ} → sound (figures r) ≡ true → t ≡ r .terms → a ≡ r .agreed → link ≡ run ws 128 linkAt →
       x ≡ refusalOn a link (t .generators) (t .consumers) kws ranks → x ≡ numberOn (scheduleRule kws ranks) r
   unfolding scheduleRule
   number-read e terms agreed link x =
@@ -92,21 +94,21 @@ module _ (s kws ranks : List ℕ) where
     rank = pairs 8 16 (cell n m ranks)
 
     shape : Shape r
-    shape = record-shape ws (length-decode 8 719 s)
+    shape = record-shape ws (length-decode 8 recordNumbers s)
 
-    runs-after : cut runLengths (replaced (from 415) 128 (λ i. getD rank i 0) (replaced (from 287) 128 (λ i. getD kw i 0) ws)) ≡ set (set (cut runLengths ws) 4 kw) 5 rank
+    runs-after : cut runLengths (replaced (from rankAt) 128 (λ i. getD rank i 0) (replaced (from kwAt) 128 (λ i. getD kw i 0) ws)) ≡ set (set (cut runLengths ws) 4 kw) 5 rank
     unfolding recordOf fromRuns runLengths cut total
     runs-after =
         let one = list-replaced 128 128 ws 4 (r .schedule .kw) (λ i. getD kw i 0) (λ i. getD kw i 0) (omega arith) refl (shape .schedule .kw) refl refl (λ i l. refl) (λ i h l. absurd (omega arith)) in
         list-replaced 128 128 _ 5 (r .schedule .rank) (λ i. getD rank i 0) (λ i. getD rank i 0) (omega arith) refl (shape .schedule .rank) one refl (λ i l. refl) (λ i h l. absurd (omega arith)) ∙
         rw (whole-list n m kws, whole-list n m ranks)
 
-    record-after : recordOf (replaced (from 415) 128 (λ i. getD rank i 0) (replaced (from 287) 128 (λ i. getD kw i 0) ws)) ≡ stored (afterSchedule kws ranks (figures r))
+    record-after : recordOf (replaced (from rankAt) 128 (λ i. getD rank i 0) (replaced (from kwAt) 128 (λ i. getD kw i 0) ws)) ≡ stored (afterSchedule kws ranks (figures r))
     unfolding recordOf fromRuns runLengths cut withSchedule scheduleFrom
     record-after = ap fromRuns runs-after ∙ rw (h .n-is, h .m-is) (scheduled-record r shape kws ranks)
 
     -- the bytes in which both lists are replaced are those of the record that the rules store
-    pub bytes-after : {t u : List ℕ} → Replaced (from 287) 128 (λ i. getD kw i 0) s t → Replaced (from 415) 128 (λ i. getD rank i 0) t u → length u ≡ 5752 → Below 256 u →
+    pub bytes-after : {t u : List ℕ} → Replaced (from kwAt) 128 (λ i. getD kw i 0) s t → Replaced (from rankAt) 128 (λ i. getD rank i 0) t u → length u ≡ recordBytes → Below 256 u →
         u ≡ encode 8 (words (stored (afterSchedule kws ranks (bookIn s))))
     bytes-after {t} {u} one two size low =
         sym (bytes-of-record u size low) ∙ rw (two .is, one .is) (ap (λ (x : Record). encode 8 (words x)) record-after)
@@ -115,9 +117,8 @@ module _ (s kws ranks : List ℕ) where
 
   pub schedule-accepted : {s′ : List ℕ} → numberOn (scheduleRule kws ranks) r ≡ 0 → s′ ≡ encode 8 (words (stored (afterSchedule kws ranks (bookIn s)))) →
       CalledOn (scheduleRule kws ranks) s [] 0 s′ []
-  unfolding recordIn scheduleRule
+  unfolding scheduleRule
   schedule-accepted z e = on-accepted _ s [] refl z e refl
 
   pub schedule-refused : {n : ℕ} → n ≡ numberOn (scheduleRule kws ranks) r → (n ≡ 0 → ⊥) → CalledOn (scheduleRule kws ranks) s [] n s []
-  unfolding recordIn
   schedule-refused e not-0 = on-refused _ s [] e not-0

@@ -4,28 +4,29 @@ ghost use mathlib.Core.Path.{_≡_};
 ghost use mathlib.Core.List.{[]};
 ghost use lib.ListN.{length, getD};
 ghost use Rattle.lists.specs.Pairs.{cell, pairs};
-ghost use Rattle.codec.specs.Bytes.{encode, decode};
+ghost use Rattle.codec.specs.Bytes.{encode};
 ghost use Rattle.record.specs.Called.{numberOn};
 ghost use Rattle.record.specs.Stored.{stored};
-ghost use Rattle.record.specs.Words.{words, recordOf};
-ghost use Rattle.layout_rules.specs.OnBytes.{CalledOn, bookIn};
+ghost use Rattle.record.specs.Words.{words};
+ghost use Rattle.layout_rules.specs.OnBytes.{CalledOn, bookIn, recordIn};
 ghost use Rattle.layout_rules.specs.Head.{HeadRead};
 ghost use Rattle.layout_rules.specs.Raised.{from};
 ghost use Rattle.agreement_rules.specs.Reading.{RowsAt};
 ghost use Rattle.agreement_rules.specs.Schedule.{afterSchedule, scheduleRule, Scheduled};
 ghost use Rattle.raising.specs.Raise.{Replaced, Replaceable};
 ghost use Rattle.schedule.specs.Accepted.{Accepted};
+ghost use Rattle.record_places.specs.RecordSize.{recordBytes};
 use record::Counts;
 use record::Terms;
 
 // The number of a schedule on the record that the bytes hold, with its terms and counts.
 fn refusal_on(s: &[u8], terms: Terms, counts: Counts, kws: &[u32], ranks: &[u32]) -> u32
     requires { ⌜ HeadRead (now s) terms counts ⌝ }
-    ensures { λ x. ⌜ x ≡ numberOn (scheduleRule (now (kws .entry)) (now (ranks .entry))) (recordOf (decode 8 719 (now (s .entry)))) ⌝ }
+    ensures { λ x. ⌜ x ≡ numberOn (scheduleRule (now (kws .entry)) (now (ranks .entry))) (recordIn (now (s .entry))) ⌝ }
 {
     if soundness::is_sound(s, terms, counts) {
         let agreed = loading::load_agreed(s);
-        let link = loading::load_pairs(s, layout_rules::LINK);
+        let link = loading::load_pairs(s, record_places::LINK);
         let n = terms.generators as usize;
         let m = terms.consumers as usize;
         schedule_refusal::refusal(agreed, &link, n, m, kws, ranks)
@@ -48,13 +49,13 @@ fn replace_schedule(s: &mut [u8], n: usize, m: usize, kws: &[u32], ranks: &[u32]
     requires { ⌜ Accepted (now s) n m (now kws) (now ranks) ⌝ }
     ensures { λ _. ⌜ now (s .exit) ≡ encode 8 (words (stored (afterSchedule (now (kws .entry)) (now (ranks .entry)) (bookIn (now (s .entry)))))) ⌝ }
 {
-    put_list(s, layout_rules::KW, kws, n, m);
-    put_list(s, layout_rules::RANK, ranks, n, m);
+    put_list(s, record_places::KW, kws, n, m);
+    put_list(s, record_places::RANK, ranks, n, m);
 }
 
 // A schedule on the record that the bytes hold.
 pub fn schedule_on(s: &mut [u8], kws: &[u32], ranks: &[u32]) -> u32
-    requires { ⌜ length (now s) ≡ 5752 ⌝ }
+    requires { ⌜ length (now s) ≡ recordBytes ⌝ }
     ensures { λ r. ⌜ CalledOn (scheduleRule (now (kws .entry)) (now (ranks .entry))) (now (s .entry)) [] r (now (s .exit)) [] ⌝ }
 {
     let terms = loading::load_terms(s);
@@ -73,7 +74,7 @@ pub fn schedule_on(s: &mut [u8], kws: &[u32], ranks: &[u32]) -> u32
 pub fn schedule(r: record::Record, kws: &[u32], ranks: &[u32]) -> record::Answer
     ensures { λ a. ⌜ Scheduled r (now (kws .entry)) (now (ranks .entry)) a ⌝ }
 {
-    let mut s = [0u8; 5752];
+    let mut s = [0u8; record_places::RECORD_BYTES];
     storing::store(r, &mut s);
     let number = schedule_on(&mut s, kws, ranks);
     let after = loading::load(&s);

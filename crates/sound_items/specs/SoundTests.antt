@@ -31,7 +31,7 @@ use Rattle.sound_totals.specs.CappedLaws.{capped-total}
 -- ---- the tests, each of one place
 
 unfoldable pub countsTest : Terms → Counts → Bool
-countsTest t n = countsSound (t .generators) (t .consumers) (t .rate) (t .cycle) (n .gone) (n .blocks) (n .month)
+countsTest t n = countsSound (t .generators) (t .consumers) (t .rate) (t .cycle) (n .gone) (n .unitblocks) (n .monthblocks)
 
 unfoldable pub agreedTest : Agreed → List ℕ → ℕ → ℕ → ℕ → Bool
 agreedTest a kw G C g = agreedSound (ltb g G) (place 8 (a .kind) g) (place 8 (a .installed) g) (place 8 (a .contracted) g) (sum C (cell 8 16 kw g))
@@ -176,12 +176,12 @@ pub record CountsFit (G C blocks : ℕ) : Type 0 where
   pub consumers-fit : C ≤ mostConsumers
   pub blocks-fit : blocks ≤ mostUnitBlocks
 
-pub counts-fit : (t : Terms) (n : Counts) → countsTest t n ≡ true → CountsFit (t .generators) (t .consumers) (n .blocks)
+pub counts-fit : (t : Terms) (n : Counts) → countsTest t n ≡ true → CountsFit (t .generators) (t .consumers) (n .unitblocks)
 unfolding countsTest countsSound
 counts-fit t n e =
     let w =
     chain-at (within 1 mostGenerators (t .generators))
-    (within 1 mostConsumers (t .consumers) ∷ leb (t .rate) mostRate ∷ within 1 mostCycle (t .cycle) ∷ ltb (n .gone) (t .cycle) ∷ leb (n .blocks) mostUnitBlocks ∷ leb (n .month) mostMonthBlocks ∷ leb (n .month) (n .blocks) ∷ [])
+    (within 1 mostConsumers (t .consumers) ∷ leb (t .rate) mostRate ∷ within 1 mostCycle (t .cycle) ∷ ltb (n .gone) (t .cycle) ∷ leb (n .unitblocks) mostUnitBlocks ∷ leb (n .monthblocks) mostMonthBlocks ∷ leb (n .monthblocks) (n .unitblocks) ∷ [])
     e in
     record { generators-fit = within-high _ _ _ (w 0); consumers-fit = within-high _ _ _ (w 1); blocks-fit = leb-true _ _ (w 5) }
 
@@ -189,8 +189,8 @@ pub sound-by-parts : (r : Record) {a b c d : Bool} →
     countsTest (r .terms) (r .counts) ≡ true →
     a ≡ all 8 (agreedTest (r .agreed) (r .schedule .kw) (r .terms .generators) (r .terms .consumers)) →
     b ≡ all 8 (λ g. all 16 (pairTest (r .links .link) (r .links .loss) (r .schedule .kw) (r .schedule .rank) (r .terms .generators) (r .terms .consumers) g)) →
-    c ≡ all 8 (generatorTest (r .generators) (r .terms .generators) (r .counts .blocks)) →
-    d ≡ all 16 (consumerTest (r .consumers) (r .terms .consumers) (r .counts .blocks)) →
+    c ≡ all 8 (generatorTest (r .generators) (r .terms .generators) (r .counts .unitblocks)) →
+    d ≡ all 16 (consumerTest (r .consumers) (r .terms .consumers) (r .counts .unitblocks)) →
     (a && b && c && d) ≡ sound (figures r)
 unfolding sound figures planOf scheduled countsTest agreedTest pairTest generatorTest consumerTest
 sound-by-parts r e p q s t = rw (e, p, q, s, t)

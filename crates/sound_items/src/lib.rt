@@ -20,9 +20,9 @@ pub fn counts_sound(t: Terms, n: Counts) -> bool
         & (t.rate <= record::MOST_RATE)
         & in_range(1, record::MOST_CYCLE, t.cycle)
         & (n.gone < t.cycle)
-        & (n.blocks <= record::MOST_UNIT_BLOCKS)
-        & (n.month <= record::MOST_MONTH_BLOCKS)
-        & (n.month <= n.blocks)
+        & (n.unitblocks <= record::MOST_UNIT_BLOCKS)
+        & (n.monthblocks <= record::MOST_MONTH_BLOCKS)
+        & (n.monthblocks <= n.unitblocks)
 }
 
 // Beyond the agreement only 0 is sound. Within the lower of two capacities is within both.

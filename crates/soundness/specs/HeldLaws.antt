@@ -10,39 +10,39 @@ use lib.ListN.{getD}
 use Rattle.lists.specs.Sums.{sum-none, sum-zero}
 use Rattle.lists.specs.Pairs.{cell}
 use Rattle.lists.specs.Tests.{and-left, and-right, all, all-at, all-same}
-use Rattle.codec.specs.Bytes.{decode}
 use Rattle.sound_totals.specs.Capped.{RowTotal}
 use Rattle.record.specs.Sound.{limit, agreedSound, pairSound, sound}
 use Rattle.sound_items.specs.SoundTests.{countsTest, counts-fit, agreedTest, agreed-here, pairRead, pairTest, generatorRead, generatorTest, consumerRead, consumerTest, sound-by-parts, unsound-counts}
 use Rattle.record.specs.Stored.{figures}
-use Rattle.record.specs.Words.{recordOf}
 use Rattle.record.specs.declared.Record.{Record}
 use Rattle.record.specs.declared.Terms.{Terms}
 use Rattle.record.specs.declared.Counts.{Counts}
 use Rattle.record.specs.declared.GeneratorTerms.{GeneratorTerms}
 use Rattle.record.specs.declared.ConsumerTerms.{ConsumerTerms}
 use Rattle.layout_rules.specs.Places as places
-use Rattle.layout_rules.specs.OnBytes.{recordIn}
+use Rattle.layout_rules.specs.OnBytes.{recordIn, bookIn}
 use Rattle.layout_rules.specs.Head.{HeadRead}
 use Rattle.soundness.specs.Held.{pairHeld}
+use Rattle.record_places.specs.RecordSize.{wordsIn}
+use Rattle.record_places.specs.Places.{agreedAt, linkAt, lossAt, kwAt, rankAt, injectedAt, meteredAt}
 
 -- the numbers of the bytes s
 abbrev at : List ℕ → ℕ → ℕ
-at s k = getD (decode 8 719 s) k 0
+at s k = getD (wordsIn s) k 0
 
 -- the record with its terms and counts read apart
 parts-read : {s : List ℕ} {terms : Terms} {counts : Counts} → HeadRead s terms counts →
     record {
       terms = terms;
       counts = counts;
-      agreed = recordOf (decode 8 719 s) .agreed;
-      links = recordOf (decode 8 719 s) .links;
-      schedule = recordOf (decode 8 719 s) .schedule;
-      generators = recordOf (decode 8 719 s) .generators;
-      consumers = recordOf (decode 8 719 s) .consumers;
-    } ≡ recordOf (decode 8 719 s)
+      agreed = recordIn s .agreed;
+      links = recordIn s .links;
+      schedule = recordIn s .schedule;
+      generators = recordIn s .generators;
+      consumers = recordIn s .consumers;
+    } ≡ recordIn s
 parts-read {s} h =
-    let r = recordOf (decode 8 719 s) in
+    let r = recordIn s in
     λ i. record { terms = h .terms-are i; counts = h .counts-are i; agreed = r .agreed; links = r .links; schedule = r .schedule; generators = r .generators; consumers = r .consumers }
 
 -- a sound pair beyond the agreement has no kW
@@ -66,42 +66,39 @@ both-false false true = refl
 both-false false false = refl
 
 module _ (s : List ℕ) where
-  pub kw-held : (i : ℕ) → i < 128 → at s (287 + i) ≡ getD (recordIn s .schedule .kw) i 0
-  unfolding recordIn
-  kw-held i h = sym (places.kw-place (decode 8 719 s) i h)
+  pub kw-held : (i : ℕ) → i < 128 → at s (kwAt + i) ≡ getD (recordIn s .schedule .kw) i 0
+  kw-held i h = sym (places.kw-place (wordsIn s) i h)
 
   pub agreed-held : (G C g : ℕ) {kind installed contracted total : ℕ} → g < 8 →
-      kind ≡ at s (7 + g * 3) → installed ≡ at s (7 + g * 3 + 1) → contracted ≡ at s (7 + g * 3 + 2) → RowTotal (recordIn s .schedule .kw) g C total →
+      kind ≡ at s (agreedAt + g * 3) → installed ≡ at s (agreedAt + g * 3 + 1) → contracted ≡ at s (agreedAt + g * 3 + 2) → RowTotal (recordIn s .schedule .kw) g C total →
       agreedSound (ltb g G) kind installed contracted total ≡ agreedTest (recordIn s .agreed) (recordIn s .schedule .kw) G C g
-  unfolding recordIn
   agreed-held G C g h a b c t =
-      let ws = decode 8 719 s in
+      let ws = wordsIn s in
       rw (a ∙ sym (places.kind-place ws g h), b ∙ sym (places.installed-place ws g h), c ∙ sym (places.contracted-place ws g h)) (agreed-here _ _ G C g h t)
 
   pub pair-held : (inside : Bool) (k : ℕ) {link loss kw rank : ℕ} → k < 128 →
-      link ≡ at s (31 + k) → loss ≡ at s (159 + k) → kw ≡ at s (287 + k) → rank ≡ at s (415 + k) →
+      link ≡ at s (linkAt + k) → loss ≡ at s (lossAt + k) → kw ≡ at s (kwAt + k) → rank ≡ at s (rankAt + k) →
       pairSound inside link loss kw rank ≡ pairHeld s inside k
-  unfolding pairHeld pairRead recordIn
+  unfolding pairHeld pairRead
   pair-held inside k h a b c d =
-      let ws = decode 8 719 s in
+      let ws = wordsIn s in
       rw (a ∙ sym (places.link-place ws k h), b ∙ sym (places.loss-place ws k h), c ∙ sym (places.kw-place ws k h), d ∙ sym (places.rank-place ws k h))
 
   pub generator-held : (g : ℕ) {x : GeneratorTerms} → g < 8 →
       x ≡ record {
-        injected = at s (543 + g);
-        unaccounted = at s (543 + g + 8);
-        lost = at s (543 + g + 16);
-        setoff = at s (543 + g + 24);
-        inadvertent = at s (543 + g + 32);
-        charge = at s (543 + g + 40);
-        drawn = at s (543 + g + 48);
-        lapsed = at s (543 + g + 56);
-        bank = at s (543 + g + 64);
-        pending = at s (543 + g + 72);
+        injected = at s (injectedAt + g);
+        unaccounted = at s (injectedAt + g + 8);
+        lost = at s (injectedAt + g + 16);
+        setoff = at s (injectedAt + g + 24);
+        inadvertent = at s (injectedAt + g + 32);
+        charge = at s (injectedAt + g + 40);
+        drawn = at s (injectedAt + g + 48);
+        lapsed = at s (injectedAt + g + 56);
+        bank = at s (injectedAt + g + 64);
+        pending = at s (injectedAt + g + 72);
       } → x ≡ generatorRead (recordIn s .generators) g
-  unfolding recordIn
   generator-held g h e =
-      let ws = decode 8 719 s in
+      let ws = wordsIn s in
       e ∙ sym (λ i. record {
         injected = places.generator-injected-place ws g h i;
         unaccounted = places.generator-unaccounted-place ws g h i;
@@ -117,16 +114,15 @@ module _ (s : List ℕ) where
 
   pub consumer-held : (c : ℕ) {x : ConsumerTerms} → c < 16 →
       x ≡ record {
-        metered = at s (623 + c);
-        setoff = at s (623 + c + 16);
-        shortfall = at s (623 + c + 32);
-        drawn = at s (623 + c + 48);
-        supplied = at s (623 + c + 64);
-        outstanding = at s (623 + c + 80);
+        metered = at s (meteredAt + c);
+        setoff = at s (meteredAt + c + 16);
+        shortfall = at s (meteredAt + c + 32);
+        drawn = at s (meteredAt + c + 48);
+        supplied = at s (meteredAt + c + 64);
+        outstanding = at s (meteredAt + c + 80);
       } → x ≡ consumerRead (recordIn s .consumers) c
-  unfolding recordIn
   consumer-held c h e =
-      let ws = decode 8 719 s in
+      let ws = wordsIn s in
       e ∙ sym (λ i. record {
         metered = places.consumer-metered-place ws c h i;
         setoff = places.consumer-setoff-place ws c h i;
@@ -163,13 +159,12 @@ module _ (s : List ℕ) where
   pub sound-held : {terms : Terms} {counts : Counts} {a b c d : Bool} → HeadRead s terms counts → countsTest terms counts ≡ true →
       a ≡ all 8 (λ g. agreedTest (recordIn s .agreed) (recordIn s .schedule .kw) (terms .generators) (limit (ltb g (terms .generators)) (terms .consumers)) g) →
       b ≡ all 8 (λ g. all 16 (pairTest (recordIn s .links .link) (recordIn s .links .loss) (recordIn s .schedule .kw) (recordIn s .schedule .rank) (terms .generators) (terms .consumers) g)) →
-      c ≡ all 8 (generatorTest (recordIn s .generators) (terms .generators) (counts .blocks)) →
-      d ≡ all 16 (consumerTest (recordIn s .consumers) (terms .consumers) (counts .blocks)) →
-      (a && b && c && d) ≡ sound (figures (recordOf (decode 8 719 s)))
-  unfolding recordIn
+      c ≡ all 8 (generatorTest (recordIn s .generators) (terms .generators) (counts .unitblocks)) →
+      d ≡ all 16 (consumerTest (recordIn s .consumers) (terms .consumers) (counts .unitblocks)) →
+      (a && b && c && d) ≡ sound (bookIn s)
   sound-held {c = c} {d = d} e h p q x y =
       ap (λ (t : Bool). t && c && d) (rows-within _ _ p q (counts-fit _ _ h .consumers-fit)) ∙ sound-by-parts _ h refl q x y ∙ ap (λ (r : Record). sound (figures r)) (parts-read e)
 
   pub unsound-held : {terms : Terms} {counts : Counts} → HeadRead s terms counts → countsTest terms counts ≡ false →
-      false ≡ sound (figures (recordOf (decode 8 719 s)))
+      false ≡ sound (bookIn s)
   unsound-held e h = unsound-counts _ (rw (e .terms-are, e .counts-are) at h)

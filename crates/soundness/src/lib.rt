@@ -8,15 +8,14 @@ ghost use lib.Dec.{ltb};
 ghost use lib.ListN.{length};
 ghost use Rattle.lists.specs.Tests.{all};
 ghost use Rattle.energy.specs.Limits.{mostGenerators, mostConsumers, mostUnitBlocks};
-ghost use Rattle.codec.specs.Bytes.{decode};
-ghost use Rattle.record.specs.Words.{recordOf};
 ghost use Rattle.record.specs.Stored.{figures};
 ghost use Rattle.record.specs.Sound.{limit, sound};
 ghost use Rattle.sound_totals.specs.Capped.{RowTotal};
 ghost use Rattle.sound_items.specs.SoundTests.{agreedTest, pairTest, generatorRead, generatorTest, consumerRead, consumerTest};
-ghost use Rattle.layout_rules.specs.OnBytes.{recordIn};
+ghost use Rattle.layout_rules.specs.OnBytes.{recordIn, bookIn};
 ghost use Rattle.layout_rules.specs.Head.{HeadRead};
 ghost use Rattle.soundness.specs.Held.{pairHeld};
+ghost use Rattle.record_places.specs.RecordSize.{recordBytes};
 use record::ConsumerTerms;
 use record::Counts;
 use record::GeneratorTerms;
@@ -25,14 +24,14 @@ use record::Terms;
 
 // The kW of generator g for the first n consumers, each capped.
 fn row_total(s: &[u8], g: usize, n: usize) -> u64
-    requires { ⌜ (length (now s) ≡ 5752) × ((g < 8) × (n ≤ 16)) ⌝ }
+    requires { ⌜ (length (now s) ≡ recordBytes) × ((g < 8) × (n ≤ 16)) ⌝ }
     ensures { λ r. ⌜ RowTotal (recordIn (now (s .entry)) .schedule .kw) g n r ⌝ }
 {
     let mut total: u64 = 0;
     let mut c: usize = 0;
     while c < n {
         total = total
-            + sound_totals::capped(in_place::number_at(s, layout_rules::KW + (g * 16 + c)));
+            + sound_totals::capped(in_place::number_at(s, record_places::KW + (g * 16 + c)));
         c += 1;
     }
     total
@@ -46,12 +45,12 @@ fn columns_within(inside: bool, m: usize) -> usize
 
 // n generators and m consumers, here and below. The row of a generator beyond the agreement is not added up: pairs_sound finds it to be zeros.
 fn agreed_at(s: &[u8], g: usize, n: usize, m: usize) -> bool
-    requires { ⌜ (length (now s) ≡ 5752) × ((g < 8) × (m ≤ mostConsumers)) ⌝ }
+    requires { ⌜ (length (now s) ≡ recordBytes) × ((g < 8) × (m ≤ mostConsumers)) ⌝ }
     ensures { λ r. ⌜ r ≡ agreedTest (recordIn (now (s .entry)) .agreed) (recordIn (now (s .entry)) .schedule .kw) n (limit (ltb g n) m) g ⌝ }
 {
     let columns = columns_within(g < n, m);
     let total = row_total(s, g, columns);
-    let k = layout_rules::AGREED + g * 3;
+    let k = record_places::AGREED + g * 3;
     sound_items::agreed_sound(
         g < n,
         in_place::number_at(s, k),
@@ -62,7 +61,7 @@ fn agreed_at(s: &[u8], g: usize, n: usize, m: usize) -> bool
 }
 
 fn agreed_all_sound(s: &[u8], n: usize, m: usize) -> bool
-    requires { ⌜ (length (now s) ≡ 5752) × (m ≤ mostConsumers) ⌝ }
+    requires { ⌜ (length (now s) ≡ recordBytes) × (m ≤ mostConsumers) ⌝ }
     ensures { λ r. ⌜ r ≡ all 8 (λ g. agreedTest (recordIn (now (s .entry)) .agreed) (recordIn (now (s .entry)) .schedule .kw) n (limit (ltb g n) m) g) ⌝ }
 {
     let mut ok = true;
@@ -76,21 +75,21 @@ fn agreed_all_sound(s: &[u8], n: usize, m: usize) -> bool
 
 // Place k of the pair lists, within the agreement.
 fn pair_within(s: &[u8], k: usize) -> bool
-    requires { ⌜ (length (now s) ≡ 5752) × (k < 128) ⌝ }
+    requires { ⌜ (length (now s) ≡ recordBytes) × (k < 128) ⌝ }
     ensures { λ r. ⌜ r ≡ pairHeld (now (s .entry)) true k ⌝ }
 {
     sound_items::pair_sound(
         true,
-        in_place::number_at(s, layout_rules::LINK + k),
-        in_place::number_at(s, layout_rules::LOSS + k),
-        in_place::number_at(s, layout_rules::KW + k),
-        in_place::number_at(s, layout_rules::RANK + k),
+        in_place::number_at(s, record_places::LINK + k),
+        in_place::number_at(s, record_places::LOSS + k),
+        in_place::number_at(s, record_places::KW + k),
+        in_place::number_at(s, record_places::RANK + k),
     )
 }
 
 // n places of the pair lists beyond the agreement: all 0. The numbers are joined by |, which goes through several at a time.
 fn beyond_sound(s: &[u8], from: usize, n: usize) -> bool
-    requires { ⌜ (length (now s) ≡ 5752) × (from + n ≤ 128) ⌝ }
+    requires { ⌜ (length (now s) ≡ recordBytes) × (from + n ≤ 128) ⌝ }
     ensures { λ r. ⌜ r ≡ all n (λ i. pairHeld (now (s .entry)) false (from + i)) ⌝ }
 {
     let mut bits: u64 = 0;
@@ -98,10 +97,10 @@ fn beyond_sound(s: &[u8], from: usize, n: usize) -> bool
     while i < n {
         let k = from + i;
         bits = bits
-            | in_place::number_at(s, layout_rules::LINK + k)
-            | in_place::number_at(s, layout_rules::LOSS + k)
-            | in_place::number_at(s, layout_rules::KW + k)
-            | in_place::number_at(s, layout_rules::RANK + k);
+            | in_place::number_at(s, record_places::LINK + k)
+            | in_place::number_at(s, record_places::LOSS + k)
+            | in_place::number_at(s, record_places::KW + k)
+            | in_place::number_at(s, record_places::RANK + k);
         i += 1;
     }
     bits == 0
@@ -109,7 +108,7 @@ fn beyond_sound(s: &[u8], from: usize, n: usize) -> bool
 
 // Row g within the agreement, 16 places of which m are within it.
 fn row_sound(s: &[u8], g: usize, m: usize) -> bool
-    requires { ⌜ (length (now s) ≡ 5752) × ((g < 8) × (m ≤ 16)) ⌝ }
+    requires { ⌜ (length (now s) ≡ recordBytes) × ((g < 8) × (m ≤ 16)) ⌝ }
     ensures { λ r. ⌜ r ≡ all 16 (λ c. pairHeld (now (s .entry)) (ltb c m) (g * 16 + c)) ⌝ }
 {
     let start = g * 16;
@@ -123,7 +122,7 @@ fn row_sound(s: &[u8], g: usize, m: usize) -> bool
 }
 
 fn pairs_sound(s: &[u8], n: usize, m: usize) -> bool
-    requires { ⌜ (length (now s) ≡ 5752) × ((n ≤ mostGenerators) × (m ≤ mostConsumers)) ⌝ }
+    requires { ⌜ (length (now s) ≡ recordBytes) × ((n ≤ mostGenerators) × (m ≤ mostConsumers)) ⌝ }
     ensures { λ r. ⌜ r ≡ all 8 (λ g. all 16 (pairTest (recordIn (now (s .entry)) .links .link) (recordIn (now (s .entry)) .links .loss) (recordIn (now (s .entry)) .schedule .kw) (recordIn (now (s .entry)) .schedule .rank) n m g)) ⌝ }
 {
     let mut ok = true;
@@ -136,10 +135,10 @@ fn pairs_sound(s: &[u8], n: usize, m: usize) -> bool
 }
 
 fn generator_terms(s: &[u8], g: usize) -> GeneratorTerms
-    requires { ⌜ (length (now s) ≡ 5752) × (g < 8) ⌝ }
+    requires { ⌜ (length (now s) ≡ recordBytes) × (g < 8) ⌝ }
     ensures { λ x. ⌜ x ≡ generatorRead (recordIn (now (s .entry)) .generators) g ⌝ }
 {
-    let k = layout_rules::INJECTED + g;
+    let k = record_places::INJECTED + g;
     GeneratorTerms {
         injected: in_place::number_at(s, k),
         unaccounted: in_place::number_at(s, k + 8),
@@ -155,7 +154,7 @@ fn generator_terms(s: &[u8], g: usize) -> GeneratorTerms
 }
 
 fn generators_sound(s: &[u8], n: usize, blocks: u64) -> bool
-    requires { ⌜ (length (now s) ≡ 5752) × (blocks ≤ mostUnitBlocks) ⌝ }
+    requires { ⌜ (length (now s) ≡ recordBytes) × (blocks ≤ mostUnitBlocks) ⌝ }
     ensures { λ r. ⌜ r ≡ all 8 (generatorTest (recordIn (now (s .entry)) .generators) n blocks) ⌝ }
 {
     let mut ok = true;
@@ -168,10 +167,10 @@ fn generators_sound(s: &[u8], n: usize, blocks: u64) -> bool
 }
 
 fn consumer_terms(s: &[u8], c: usize) -> ConsumerTerms
-    requires { ⌜ (length (now s) ≡ 5752) × (c < 16) ⌝ }
+    requires { ⌜ (length (now s) ≡ recordBytes) × (c < 16) ⌝ }
     ensures { λ x. ⌜ x ≡ consumerRead (recordIn (now (s .entry)) .consumers) c ⌝ }
 {
-    let k = layout_rules::METERED + c;
+    let k = record_places::METERED + c;
     ConsumerTerms {
         metered: in_place::number_at(s, k),
         setoff: in_place::number_at(s, k + 16),
@@ -183,7 +182,7 @@ fn consumer_terms(s: &[u8], c: usize) -> ConsumerTerms
 }
 
 fn consumers_sound(s: &[u8], m: usize, blocks: u64) -> bool
-    requires { ⌜ (length (now s) ≡ 5752) × (blocks ≤ mostUnitBlocks) ⌝ }
+    requires { ⌜ (length (now s) ≡ recordBytes) × (blocks ≤ mostUnitBlocks) ⌝ }
     ensures { λ r. ⌜ r ≡ all 16 (consumerTest (recordIn (now (s .entry)) .consumers) m blocks) ⌝ }
 {
     let mut ok = true;
@@ -198,12 +197,12 @@ fn consumers_sound(s: &[u8], m: usize, blocks: u64) -> bool
 // The test of the record that the bytes hold, with its terms and counts.
 pub fn is_sound(s: &[u8], terms: Terms, counts: Counts) -> bool
     requires { ⌜ HeadRead (now s) terms counts ⌝ }
-    ensures { λ b. ⌜ b ≡ sound (figures (recordOf (decode 8 719 (now (s .entry))))) ⌝ }
+    ensures { λ b. ⌜ b ≡ sound (bookIn (now (s .entry))) ⌝ }
 {
     if sound_items::counts_sound(terms, counts) {
         let n = terms.generators as usize;
         let m = terms.consumers as usize;
-        let blocks = counts.blocks;
+        let blocks = counts.unitblocks;
         agreed_all_sound(s, n, m)
             & pairs_sound(s, n, m)
             & generators_sound(s, n, blocks)
@@ -217,7 +216,7 @@ pub fn is_sound(s: &[u8], terms: Terms, counts: Counts) -> bool
 pub fn is_sound_record(r: Record) -> bool
     ensures { λ b. ⌜ b ≡ sound (figures r) ⌝ }
 {
-    let mut bytes = [0u8; 5752];
+    let mut bytes = [0u8; record_places::RECORD_BYTES];
     storing::store(r, &mut bytes);
     is_sound(&bytes, r.terms, r.counts)
 }

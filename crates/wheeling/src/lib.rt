@@ -3,14 +3,15 @@ ghost use mathlib.Core.Path.{_≡_};
 ghost use lib.ListN.{length};
 ghost use Rattle.block_rules.specs.Block.{blockRule};
 ghost use Rattle.wheeling_rules.specs.Wheeling.{numbersIn, ByRule, openingIn, ByteOpened, ByteScheduled, ByteBlocked, ByteClosed};
+ghost use Rattle.record_places.specs.RecordSize.{recordBytes};
 
-const RECORD_BYTES: usize = 5752;
+const RECORD_BYTES: usize = record_places::RECORD_BYTES;
 
 // Each array below has a place more than the largest agreement takes: see `host::read_input` and `host::room`.
 
 // A block whose inputs are read: its output is made as numbers, and written where it is accepted.
 fn block_on_inputs(bytes: &mut [u8], entry: &[u32], exit: &[u32], output: &mut [u8]) -> u32
-    requires { ⌜ length (now bytes) ≡ 5752 ⌝ }
+    requires { ⌜ length (now bytes) ≡ recordBytes ⌝ }
     ensures { λ r. ⌜ ByRule (blockRule (now (entry .entry)) (now (exit .entry)) (length (numbersIn 8 (now (output .entry))))) (now (bytes .entry)) (now (output .entry)) r (now (bytes .exit)) (now (output .exit)) ⌝ }
 {
     let mut out = [0u64; 537];

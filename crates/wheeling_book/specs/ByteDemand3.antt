@@ -11,8 +11,9 @@ use Rattle.unit.specs.Calls.{Call, bookAfter, BookAnswer, bookAnswers}
 use Rattle.unit.specs.Trace.{callOf}
 use Rattle.unit.specs.Demand3.{Demand3}
 use Rattle.layout_rules.specs.OnBytes.{recordIn, bytesAfter}
-use Rattle.wheeling_rules.specs.Wheeling.{recordBytes, openingIn, ByteOpened}
+use Rattle.wheeling_rules.specs.Wheeling.{openingIn, ByteOpened}
 use Rattle.wheeling_book.specs.ByteTrace.{ByteAsk, askIn, bytesLent, ByteGiven, givenIn, ByteTrace, lastBytes}
+use Rattle.record_places.specs.RecordSize.{recordBytes}
 
 -- The number is the book's. The output's bytes are those of the book's output where the call was accepted, else as they were lent.
 pub record ByteMatch (a : ByteAsk) (w : ByteGiven) (e : BookAnswer) : Type 0 where

@@ -32,11 +32,12 @@ use Rattle.closing_rules.specs.ClosingRoom.{closing-output-moderate}
 use Rattle.unit.specs.Calls.{Call, schedule, block, closing, ruleOf, next, bookAfter, bookAnswers}
 use Rattle.unit.specs.Trace.{Ask, callOf, Given, Done, Trace, trace-none, trace-one, lastRecord}
 use Rattle.unit.specs.Demand3Proof.{Kept, next-kept, opened-kept, demand-3}
-use Rattle.layout_rules.specs.OnBytes.{recordIn, bytesAfter}
-use Rattle.wheeling_rules.specs.Wheeling.{recordBytes, numbersIn, ByRule, OnBytes, openingIn, ByteOpened, CalledOnBytes}
+use Rattle.layout_rules.specs.OnBytes.{recordIn, bytesAfter, bookIn}
+use Rattle.wheeling_rules.specs.Wheeling.{numbersIn, ByRule, OnBytes, openingIn, ByteOpened, CalledOnBytes}
 use Rattle.wheeling_rules.specs.ReadingLaws.{numbers-encode, numbers-none, no-bytes}
 use Rattle.wheeling_book.specs.ByteTrace.{ByteAsk, byteSchedule, byteBlock, byteClosing, askIn, bytesLent, ByteGiven, givenIn, ByteDone, ByteTrace, bytes-none, bytes-one, lastBytes}
 use Rattle.wheeling_book.specs.ByteDemand3.{ByteMatch, ByteMatches, match-none, match-one, callsIn, ByteDemand3, ByteClaim}
+use Rattle.record_places.specs.RecordSize.{recordBytes}
 
 -- ---- every number of an accepted call's output fits its 8 bytes
 
@@ -58,7 +59,6 @@ module _ (b : Book) (f : Facts b) {s : List ℕ} (q : s ≡ encode 8 (words (sto
   whole-record = ap length q ∙ bytes-of-stored b
 
   record-in : recordIn s ≡ stored b
-  unfolding recordIn
   record-in = rw q (record-of-bytes b f)
 
 -- ---- one call, on the bytes s of the record stored of book b
@@ -67,7 +67,7 @@ module _ (o : Opening) (b : Book) (h : Kept o b) (k : Call) {s lent s′ lent′
   in-record : recordIn s ≡ stored b
   in-record = record-in b (h .facts) q
 
-  figures-are : figures (recordIn s) ≡ b
+  figures-are : bookIn s ≡ b
   figures-are = ap figures in-record ∙ figures-stored b (facts-cut b (h .facts))
 
   number-on : n ≡ numberOn (ruleOf k) (stored b)
@@ -232,7 +232,7 @@ given-silent refusal number after s = go (eqb (length s) recordBytes)
 -- by a rule
 module _ (rule : Rule) (s lent : List ℕ) where
   byRule : ByteGiven
-  byRule = givenBytes 1 (numberOn rule (recordIn s)) (words (stored (rule .after (figures (recordIn s))))) (rule .output (figures (recordIn s))) s lent
+  byRule = givenBytes 1 (numberOn rule (recordIn s)) (words (stored (rule .after (bookIn s)))) (rule .output (bookIn s)) s lent
 
   by-rule : CalledOnBytes rule s lent (byRule .number) (byRule .bytes) (byRule .out)
   unfolding byRule

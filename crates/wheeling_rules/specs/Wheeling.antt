@@ -9,18 +9,15 @@ use Rattle.lists.specs.Choice.{if_then_else_}
 use Rattle.lists.specs.Tables.{table}
 use Rattle.codec.specs.Bytes.{decode}
 use Rattle.record.specs.Words.{words}
-use Rattle.record.specs.Stored.{figures, stored}
+use Rattle.record.specs.Stored.{stored}
 use Rattle.record.specs.Called.{Rule, numberOn}
-use Rattle.layout_rules.specs.OnBytes.{recordIn, bytesAfter}
+use Rattle.layout_rules.specs.OnBytes.{recordIn, bytesAfter, bookIn}
 use Rattle.agreement_rules.specs.Opening.{Opening, asked}
 use Rattle.agreement_rules.specs.OpenedOn.{OpenedOn}
 use Rattle.agreement_rules.specs.Schedule.{scheduleRule}
 use Rattle.block_rules.specs.Block.{blockRule}
 use Rattle.closing_rules.specs.Closing.{closingRule}
-
--- 719 numbers of 8 bytes
-abbrev pub recordBytes : ℕ
-recordBytes = 5_752
+use Rattle.record_places.specs.RecordSize.{recordBytes}
 
 -- The numbers in the bytes, w bytes each. Bytes that are no whole count of numbers are refused as a wrong length is: they are read as a
 -- list of a length that no agreement takes.
@@ -31,8 +28,8 @@ numbersIn w bytes = if eqb (length bytes % w) 0 then decode w (length bytes / w)
 -- refused call leaves every byte as it was.
 pub record ByRule (rule : Rule) (bytes lent : List ℕ) (number : ℕ) (bytes′ lent′ : List ℕ) : Type 0 where
   pub number-is : number ≡ numberOn rule (recordIn bytes)
-  pub record-is : bytes′ ≡ bytesAfter number (words (stored (rule .after (figures (recordIn bytes))))) bytes
-  pub output-is : lent′ ≡ bytesAfter number (rule .output (figures (recordIn bytes))) lent
+  pub record-is : bytes′ ≡ bytesAfter number (words (stored (rule .after (bookIn bytes)))) bytes
+  pub output-is : lent′ ≡ bytesAfter number (rule .output (bookIn bytes)) lent
 
 -- A call on any bytes: where the record has another length it returns the refusal and changes nothing.
 pub record OnBytes (refusal : ℕ) (Whole : Type 0) (bytes lent : List ℕ) (number : ℕ) (bytes′ lent′ : List ℕ) : Type 0 where

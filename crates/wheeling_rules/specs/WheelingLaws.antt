@@ -24,10 +24,11 @@ use Rattle.block_rules.specs.Block.{blockLength, blockRefusal, blockRule}
 use Rattle.block_rules.specs.BlockLaws.{block-sized}
 use Rattle.closing_rules.specs.Closing.{closingLength, closingRefusal, closingRule}
 use Rattle.closing_rules.specs.ClosingLaws.{closing-sized}
-use Rattle.layout_rules.specs.OnBytes.{recordIn, bytesAfter, CalledOn}
-use Rattle.wheeling_rules.specs.Wheeling.{recordBytes, numbersIn, ByRule, OnBytes, openingIn, ByteOpened, ByteScheduled, ByteBlocked, ByteClosed}
+use Rattle.layout_rules.specs.OnBytes.{recordIn, bytesAfter, CalledOn, bookIn}
+use Rattle.wheeling_rules.specs.Wheeling.{numbersIn, ByRule, OnBytes, openingIn, ByteOpened, ByteScheduled, ByteBlocked, ByteClosed}
 use Rattle.wheeling_rules.specs.ReadingLaws.{room-fits, room-alike, left-there, after-same, no-bytes}
 use Rattle.wheeling_rules.specs.Reading.{AlikeSize, Alike, Room, Written}
+use Rattle.record_places.specs.RecordSize.{recordBytes}
 
 -- ---- a call does not tell lists apart that are too long for it
 
@@ -156,7 +157,7 @@ module _ (G C rate cycle gone : ℕ) {xs xs′ ys ys′ bytes bytes′ : List �
 rule-moved : {rule rule′ : Rule} {bytes lent bytes′ lent′ : List ℕ} {n : ℕ} → SameOn (recordIn bytes) rule rule′ → ByRule rule bytes lent n bytes′ lent′ → ByRule rule′ bytes lent n bytes′ lent′
 rule-moved {bytes = bytes} {lent} {bytes′} {lent′} {n} (inl e) c = subst (λ (x : Rule). ByRule x bytes lent n bytes′ lent′) e c
 rule-moved {rule} {rule′} {bytes} {lent} {n = n} (inr h) c =
-    let first : sound (figures (recordIn bytes)) ≡ true → rule .refusal (figures (recordIn bytes)) ≡ 2 = λ s. h s .0 in
+    let first : sound (bookIn bytes) ≡ true → rule .refusal (bookIn bytes) ≡ 2 = λ s. h s .0 in
     let refused : n ≡ 0 → ⊥ = λ z. two-refused (recordIn bytes) rule first (sym (c .number-is) ∙ z) in
     record {
       number-is = c .number-is ∙ two (recordIn bytes) rule first ∙ sym (two (recordIn bytes) rule′ (λ s. h s .1));
@@ -170,9 +171,9 @@ written {rule} {bytes} {numbers} {bytes′} {out} {lent} {lent′} {n} {m} c w =
     let e = sym (w .number-is) in
     record {
       number-is = w .number-is ∙ c .number-is;
-      record-is = subst (λ (i : ℕ). bytes′ ≡ bytesAfter i (words (stored (rule .after (figures (recordIn bytes))))) bytes) e (c .record-is);
+      record-is = subst (λ (i : ℕ). bytes′ ≡ bytesAfter i (words (stored (rule .after (bookIn bytes)))) bytes) e (c .record-is);
       output-is =
-          subst (λ (i : ℕ). lent′ ≡ bytesAfter i (rule .output (figures (recordIn bytes))) lent) e
+          subst (λ (i : ℕ). lent′ ≡ bytesAfter i (rule .output (bookIn bytes)) lent) e
           (w .output-is ∙ after-same lent (λ z. c .output-is ∙ output-accepted rule (recordIn bytes) numbers (sym (c .number-is) ∙ z)));
     }
 

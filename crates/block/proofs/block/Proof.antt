@@ -28,7 +28,6 @@ same-length : tie.Need-same-length
 same-length c = search needs
 
 returns : tie.Need-returns
-unfolding recordIn
 returns c = on-struct _ _ (block-keeps _ _ _) (c .before .before .before .before .before .before .before .before .before .store .ensures .1) (c .load .ensures) (c .before .before .before .before .before .block-on .ensures)
 
 pub block-spec : {M : Type 1} → statement M

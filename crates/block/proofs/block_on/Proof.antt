@@ -2,12 +2,11 @@
 use mathlib.Core.Path.{_≡_, sym, _∙_}
 use lib.ListN.{length}
 use borrow.Author.Needs.{needs}
-use Rattle.codec.specs.Bytes.{decode}
 use Rattle.record.specs.Called.{numberOn}
-use Rattle.record.specs.Words.{recordOf}
 use Rattle.layout_rules.specs.Head.{HeadRead}
 use Rattle.block_rules.specs.Block.{blockRule}
 use Rattle.block.specs.Ready.{ready, ranked, exits, sized, delivered-sized, settled, block-accepted, block-refused}
+use Rattle.layout_rules.specs.OnBytes.{recordIn}
 use Rattle.block.proofs.block_on.Statement.{statement}
 use Rattle.block.proofs.block_on.Tie as tie
 
@@ -32,7 +31,7 @@ accepted : (c : tie.Then1) →
     let terms = c .before .before .before .before .before in
     let known = terms .before .before in
     let a = known .before .before .before .before .args in
-    numberOn (blockRule (a .entry .now) (a .exit .now) (length (a .out .now))) (recordOf (decode 8 719 (a .s .now))) ≡ 0
+    numberOn (blockRule (a .entry .now) (a .exit .now) (length (a .out .now))) (recordIn (a .s .now)) ≡ 0
 accepted c = sym (c .before .refusal-on .ensures) ∙ c .if1 .taken
 
 deliver-requires : tie.Need-deliver-requires

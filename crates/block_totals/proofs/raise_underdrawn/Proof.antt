@@ -3,16 +3,16 @@ use Prim.Native.Nat.{_<_, _-_, _≤_}
 use mathlib.Core.Path.{_≡_, _∙_}
 use native.Mathlib.Omega.{arith}
 use borrow.Author.Needs.{needs}
-use Rattle.codec.specs.Bytes.{decode}
 use Rattle.raising.specs.Raise.{rowSum, Raised}
 use Rattle.block_totals.specs.Totals.{underdrawnPlace}
 use Rattle.raising.specs.RaiseLaws.{row-within, none-raised, one-more, all-raised, row-cap}
 use Rattle.block_totals.specs.TotalsLaws.{place-stays, place-low, place-high}
+use Rattle.record_places.specs.RecordSize.{wordsIn}
 use Rattle.block_totals.proofs.raise_underdrawn.Statement.{statement}
 use Rattle.block_totals.proofs.raise_underdrawn.Tie as tie
 
 abbrev Inv-loop : tie.InvT-loop
-Inv-loop s₀ xs first n m g₀ s g = (g ≤ n) × Raised (underdrawnPlace (decode 8 719 s₀)) g (rowSum m xs first) s₀ s
+Inv-loop s₀ xs first n m g₀ s g = (g ≤ n) × Raised (underdrawnPlace (wordsIn s₀)) g (rowSum m xs first) s₀ s
 
 abbrev μ-loop : tie.MeasureT-loop
 μ-loop s₀ xs first n m g₀ s g = n - g
@@ -33,8 +33,8 @@ add-at-requires c κs = let l = c .before .before .before .before .before .loop 
     let start = c .before .before .before .before .before .before .before .before in
     let able = start .pre .0 in
     let few : l .g < 8 = omega (arith, start .pre .1 .1 .0) in
-    let at : c .before .before .underdrawn-place .result ≡ underdrawnPlace (decode 8 719 (start .args .s .now)) (l .g) = c .before .before .underdrawn-place .ensures ∙ place-stays able few (l .inv .1) in
-    (l .inv .1 .size ∙ able .size, (omega (arith, place-high (decode 8 719 (start .args .s .now)) (l .g)), rw at (omega (arith, place-low able few (l .inv .1), c .row-sum .ensures, row-cap (start .args .m) (start .args .first) (l .g) (start .pre .1 .1 .1 .1)))))
+    let at : c .before .before .underdrawn-place .result ≡ underdrawnPlace (wordsIn (start .args .s .now)) (l .g) = c .before .before .underdrawn-place .ensures ∙ place-stays able few (l .inv .1) in
+    (l .inv .1 .size ∙ able .size, (omega (arith, place-high (wordsIn (start .args .s .now)) (l .g)), rw at (omega (arith, place-low able few (l .inv .1), c .row-sum .ensures, row-cap (start .args .m) (start .args .first) (l .g) (start .pre .1 .1 .1 .1)))))
 
 add-g : tie.Need-add-g Inv-loop μ-loop
 add-g c = search needs

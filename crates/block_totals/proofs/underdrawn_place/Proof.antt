@@ -1,8 +1,8 @@
 -- `block_totals::underdrawn_place` meets its contract, by the kind. Assumes nothing.
 use native.Mathlib.Omega.{arith}
 use borrow.Author.Needs.{needs}
-use Rattle.codec.specs.Bytes.{decode}
 use Rattle.block_totals.specs.TotalsLaws.{inadvertent-place, pending-place}
+use Rattle.record_places.specs.RecordSize.{wordsIn}
 use Rattle.block_totals.proofs.underdrawn_place.Statement.{statement}
 use Rattle.block_totals.proofs.underdrawn_place.Tie as tie
 
@@ -23,11 +23,11 @@ add-result-2 c = search needs
 
 returns : tie.Need-returns
 returns c = let start = c .before .before .before in
-    omega (arith, inadvertent-place (decode 8 719 (start .args .s .now)) (start .args .g) (c .before .number-at .ensures) (c .if1 .taken))
+    omega (arith, inadvertent-place (wordsIn (start .args .s .now)) (start .args .g) (c .before .number-at .ensures) (c .if1 .taken))
 
 returns-2 : tie.Need-returns-2
 returns-2 c = let start = c .before .before .before in
-    omega (arith, pending-place (decode 8 719 (start .args .s .now)) (start .args .g) (c .before .number-at .ensures) (c .if1 .left))
+    omega (arith, pending-place (wordsIn (start .args .s .now)) (start .args .g) (c .before .number-at .ensures) (c .if1 .left))
 
 pub underdrawn-place-spec : {M : Type 1} → statement M
 underdrawn-place-spec =

@@ -34,7 +34,6 @@ same-length : tie.Need-same-length
 same-length c = c .before .before .before .before .before .close-on .kept .1 .0
 
 returns : tie.Need-returns
-unfolding recordIn
 returns c =
     let closed = c .before .before .before .before .before in
     let filled = closed .before .before .before .before in

@@ -2,12 +2,11 @@
 use mathlib.Core.Path.{_≡_, sym, _∙_}
 use lib.ListN.{length}
 use borrow.Author.Needs.{needs}
-use Rattle.codec.specs.Bytes.{decode}
 use Rattle.record.specs.Called.{numberOn}
-use Rattle.record.specs.Words.{recordOf}
 use Rattle.layout_rules.specs.Head.{HeadRead}
 use Rattle.closing_rules.specs.Closing.{closingRule}
 use Rattle.closing.specs.Ready.{listed, closing-accepted, closing-refused}
+use Rattle.layout_rules.specs.OnBytes.{recordIn}
 use Rattle.closing.proofs.close_on.Statement.{statement}
 use Rattle.closing.proofs.close_on.Tie as tie
 
@@ -30,7 +29,7 @@ head c = search needs
 accepted : (c : tie.Then1) →
     let terms = c .before .before .before .before .before in
     let a = terms .before .before .before .before .args in
-    numberOn (closingRule (length (a .out .now))) (recordOf (decode 8 719 (a .s .now))) ≡ 0
+    numberOn (closingRule (length (a .out .now))) (recordIn (a .s .now)) ≡ 0
 accepted c = sym (c .before .refusal-on .ensures) ∙ c .if1 .taken
 
 make-requires : tie.Need-make-requires

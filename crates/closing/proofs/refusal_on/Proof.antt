@@ -2,19 +2,17 @@
 use mathlib.Core.Bool.{true}
 use mathlib.Core.Path.{_≡_, _∙_, sym}
 use borrow.Author.Needs.{needs}
-use Rattle.codec.specs.Bytes.{decode}
 use Rattle.record.specs.CalledLaws.{number-unsound, terms-few}
 use Rattle.record.specs.Sound.{sound}
-use Rattle.record.specs.Stored.{figures}
-use Rattle.record.specs.Words.{recordOf}
 use Rattle.closing_rules.specs.ClosingRefusals.{record-refusal}
+use Rattle.layout_rules.specs.OnBytes.{bookIn}
 use Rattle.closing.proofs.refusal_on.Statement.{statement}
 use Rattle.closing.proofs.refusal_on.Tie as tie
 
 is-sound-requires : tie.Need-is-sound-requires
 is-sound-requires c κs = search needs
 
-passed : (c : tie.Then1) → sound (figures (recordOf (decode 8 719 (c .before .before .before .args .s .now)))) ≡ true
+passed : (c : tie.Then1) → sound (bookIn (c .before .before .before .args .s .now)) ≡ true
 passed c = sym (c .before .is-sound .ensures) ∙ c .if1 .taken
 
 refusal-requires : tie.Need-refusal-requires

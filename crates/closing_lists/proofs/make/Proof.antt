@@ -1,10 +1,9 @@
 -- `closing_lists::make` meets its contract: the steps on what was read give the output of the rules.
 use mathlib.Core.Path.{refl}
 use borrow.Author.Needs.{needs}
-use Rattle.codec.specs.Bytes.{decode}
-use Rattle.record.specs.Words.{recordOf}
 use Rattle.closing_lists.specs.Accepted.{StepsRead, credit-ready, draw-ready, lapse-ready, output-room, lists-are}
 use Rattle.closing_lists.specs.Reading.{steps-read}
+use Rattle.layout_rules.specs.OnBytes.{recordIn}
 use Rattle.closing_lists.proofs.make.Statement.{statement}
 use Rattle.closing_lists.proofs.make.Tie as tie
 
@@ -23,7 +22,7 @@ start c = c .before .before .before .before .before
 
 read : (c : tie.After-load16) →
     let a = start c .args in
-    StepsRead (recordOf (decode 8 719 (a .s .now))) (a .terms) (a .counts) (c .before .before .load8 .result) (c .before .load82 .result) (c .load16 .result)
+    StepsRead (recordIn (a .s .now)) (a .terms) (a .counts) (c .before .before .load8 .result) (c .before .load82 .result) (c .load16 .result)
 read c = steps-read _ (start c .pre .0) (c .before .before .load8 .ensures) (c .before .load82 .ensures) (c .load16 .ensures)
 
 credit-requires : tie.Need-credit-requires

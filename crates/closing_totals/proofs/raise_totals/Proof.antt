@@ -7,6 +7,7 @@ use Rattle.energy.specs.Limits.{mostFigure}
 use Rattle.raising.specs.Raise.{Raisable}
 use Rattle.raising.specs.RaiseLaws.{next-list, fewer}
 use Rattle.closing_totals.specs.TotalsLaws.{totals-all}
+use Rattle.record_places.specs.Places.{generatorDrawnAt, lapsedAt, consumerDrawnAt, suppliedAt}
 use Rattle.closing_totals.proofs.raise_totals.Statement.{statement}
 use Rattle.closing_totals.proofs.raise_totals.Tie as tie
 
@@ -26,7 +27,7 @@ raise-numbers-requires c κs =
 abbrev Behind : (p n : ℕ) (s : List ℕ) → Type 0
 Behind p n s = tie.Start × Raisable p n mostFigure s
 
-abbrev charged : (c : tie.After-raise-numbers) → Behind 591 8 (c .raise-numbers .last .0)
+abbrev charged : (c : tie.After-raise-numbers) → Behind generatorDrawnAt 8 (c .raise-numbers .last .0)
 charged c =
     let start = c .before .before .before .before in
     (start, next-list 8 8 (start .pre .1 .generators-few) (omega arith) (start .pre .0) (c .raise-numbers .ensures))
@@ -37,7 +38,7 @@ raise-rows-requires c κs =
     let lists = x .0 .pre .1 in
     (fewer _ _ (lists .generators-few) (omega arith) (x .1), (omega (arith, lists .size), (lists .consumers-few, lists .moderate)))
 
-abbrev gave : (c : tie.After-raise-rows) → Behind 599 8 (c .raise-rows .last .0)
+abbrev gave : (c : tie.After-raise-rows) → Behind lapsedAt 8 (c .raise-rows .last .0)
 gave c =
     let x = charged (c .before .before .before .before) in
     (x .0, next-list 8 8 (x .0 .pre .1 .generators-few) (omega arith) (x .1) (c .raise-rows .ensures))
@@ -48,7 +49,7 @@ raise-numbers-requires-2 c κs =
     let lists = x .0 .pre .1 in
     (fewer _ _ (lists .generators-few) (omega arith) (x .1), (omega (arith, lists .size), lists .moderate))
 
-abbrev lapsed : (c : tie.After-raise-numbers2) → Behind 671 48 (c .raise-numbers2 .last .0)
+abbrev lapsed : (c : tie.After-raise-numbers2) → Behind consumerDrawnAt 48 (c .raise-numbers2 .last .0)
 lapsed c =
     let x = gave (c .before .before .before .before) in
     (x .0, next-list 72 48 (omega (arith, x .0 .pre .1 .generators-few)) (omega arith) (x .1) (c .raise-numbers2 .ensures))
@@ -59,7 +60,7 @@ raise-columns-requires c κs =
     let lists = x .0 .pre .1 in
     (fewer _ _ (omega (arith, lists .consumers-few)) (omega arith) (x .1), (omega (arith, lists .size), (lists .generators-few, lists .moderate)))
 
-abbrev took : (c : tie.After-raise-columns) → Behind 687 16 (c .raise-columns .last .0)
+abbrev took : (c : tie.After-raise-columns) → Behind suppliedAt 16 (c .raise-columns .last .0)
 took c =
     let x = lapsed (c .before .before .before .before) in
     (x .0, next-list 16 16 (x .0 .pre .1 .consumers-few) (omega arith) (x .1) (c .raise-columns .ensures))

@@ -1,10 +1,10 @@
 -- `in_place::add_at` meets its contract: the sum with w is written where the number stands. Assumes nothing.
 use mathlib.Core.Path.{ap, _∙_}
 use lib.ListN.{set}
-use Rattle.codec.specs.Bytes.{decode}
 use borrow.Author.Needs.{needs}
 use Rattle.in_place.proofs.add_at.Statement.{statement}
 use Rattle.in_place.proofs.add_at.Tie as tie
+use Rattle.record_places.specs.RecordSize.{wordsIn}
 
 sum-at-requires : tie.Need-sum-at-requires
 sum-at-requires c κs = search needs
@@ -19,7 +19,7 @@ returns : tie.Need-returns
 returns c =
     let summed = c .before .before .before .before in
     let a = summed .before .before .before .args in
-    c .before .before .put-at .ensures .0 ∙ ap (set (decode 8 719 (a .s .now)) (a .k)) (summed .sum-at .ensures)
+    c .before .before .put-at .ensures .0 ∙ ap (set (wordsIn (a .s .now)) (a .k)) (summed .sum-at .ensures)
 
 pub add-at-spec : {M : Type 1} → statement M
 add-at-spec = tie.close (tie.spec sum-at-requires put-at-requires same-length returns)

@@ -3,12 +3,12 @@ use Prim.Native.Nat.{_+_, _-_, _*_}
 use lib.ListN.{getD}
 use borrow.Author.Needs.{needs}
 use Rattle.lists.specs.Tables.{Filling, fill-start, fill-step, fill-done}
-use Rattle.codec.specs.Bytes.{decode}
+use Rattle.record_places.specs.RecordSize.{wordsIn}
 use Rattle.in_place.proofs.column_at.Statement.{statement}
 use Rattle.in_place.proofs.column_at.Tie as tie
 
 abbrev Inv-loop : tie.InvT-loop
-Inv-loop s at xs₀ g₀ xs g = Filling 8 (λ h. getD (decode 8 719 s) (at + h * 16) 0) xs₀ g xs
+Inv-loop s at xs₀ g₀ xs g = Filling 8 (λ h. getD (wordsIn s) (at + h * 16) 0) xs₀ g xs
 
 abbrev μ-loop : tie.MeasureT-loop
 μ-loop s at xs₀ g₀ xs g = 8 - g

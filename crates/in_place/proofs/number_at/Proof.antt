@@ -2,6 +2,7 @@
 use mathlib.Core.Path.{sym, _∙_}
 use borrow.Author.Needs.{needs}
 use Rattle.codec.specs.BytesLaws.{decode-at}
+use Rattle.record_places.specs.RecordSize.{recordNumbers}
 use Rattle.in_place.proofs.number_at.Statement.{statement}
 use Rattle.in_place.proofs.number_at.Tie as tie
 
@@ -12,7 +13,7 @@ number8-requires : tie.Need-number8-requires
 number8-requires c κs = search needs
 
 returns : tie.Need-returns
-returns c = c .number8 .ensures ∙ sym (decode-at 8 719 _ _ (c .before .before .pre .1))
+returns c = c .number8 .ensures ∙ sym (decode-at 8 recordNumbers _ _ (c .before .before .pre .1))
 
 pub number-at-spec : {M : Type 1} → statement M
 number-at-spec = tie.close (tie.spec mul-number8 number8-requires returns)

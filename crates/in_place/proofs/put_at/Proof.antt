@@ -4,6 +4,7 @@ use native.Mathlib.Omega.{arith}
 use borrow.Author.Needs.{needs}
 use Rattle.codec.specs.Bytes.{decode}
 use Rattle.codec.specs.BytesLaws.{decode-sets}
+use Rattle.record_places.specs.RecordSize.{recordNumbers}
 use Rattle.in_place.proofs.put_at.Statement.{statement}
 use Rattle.in_place.proofs.put_at.Tie as tie
 
@@ -16,7 +17,7 @@ same-length c = search needs
 returns : tie.Need-returns
 returns c =
     let start = c .before .before .before .before .before in
-    (ap (decode 8 719) (c .before .before .put8 .ensures) ∙ decode-sets 8 719 _ _ _ (start .pre .1) (start .pre .0) (omega arith), search needs)
+    (ap (decode 8 recordNumbers) (c .before .before .put8 .ensures) ∙ decode-sets 8 recordNumbers _ _ _ (start .pre .1) (start .pre .0) (omega arith), search needs)
 
 pub put-at-spec : {M : Type 1} → statement M
 put-at-spec = tie.close (tie.spec put8-requires same-length returns)

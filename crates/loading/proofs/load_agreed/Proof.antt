@@ -1,8 +1,8 @@
 -- `loading::load_agreed` meets its contract: the columns are those of the run at place 7. Assumes nothing.
 use mathlib.Core.Path.{_∙_}
 use borrow.Author.Needs.{needs}
-use Rattle.codec.specs.Bytes.{decode}
 use Rattle.layout_rules.specs.Layout.{agreed-at}
+use Rattle.record_places.specs.RecordSize.{wordsIn}
 use Rattle.loading.proofs.load_agreed.Statement.{statement}
 use Rattle.loading.proofs.load_agreed.Tie as tie
 
@@ -30,7 +30,7 @@ returns c =
       installed = c .before .column2 .ensures i;
       contracted = c .column3 .ensures i;
     }) ∙
-    agreed-at (decode 8 719 (start .args .s .now)) _ (filled .load-run .ensures)
+    agreed-at (wordsIn (start .args .s .now)) _ (filled .load-run .ensures)
 
 pub load-agreed-spec : {M : Type 1} → statement M
 load-agreed-spec =

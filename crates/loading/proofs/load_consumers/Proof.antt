@@ -1,8 +1,8 @@
 -- `loading::load_consumers` meets its contract: each figure is read at its place. Assumes nothing.
 use mathlib.Core.Path.{sym, _∙_}
 use borrow.Author.Needs.{needs}
-use Rattle.codec.specs.Bytes.{decode}
 use Rattle.layout_rules.specs.Layout.{consumers-at}
+use Rattle.record_places.specs.RecordSize.{wordsIn}
 use Rattle.loading.proofs.load_consumers.Statement.{statement}
 use Rattle.loading.proofs.load_consumers.Tie as tie
 
@@ -35,7 +35,7 @@ returns c =
       supplied = c .before .load165 .ensures i;
       outstanding = c .load166 .ensures i;
     }) ∙
-    sym (consumers-at (decode 8 719 (start .args .s .now)))
+    sym (consumers-at (wordsIn (start .args .s .now)))
 
 pub load-consumers-spec : {M : Type 1} → statement M
 load-consumers-spec =

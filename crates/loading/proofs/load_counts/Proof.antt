@@ -1,7 +1,7 @@
 -- `loading::load_counts` meets its contract: each figure is read at its place. Assumes nothing.
 use borrow.Author.Needs.{needs}
-use Rattle.codec.specs.Bytes.{decode}
 use Rattle.layout_rules.specs.Layout.{counts-at}
+use Rattle.record_places.specs.RecordSize.{wordsIn}
 use Rattle.loading.proofs.load_counts.Statement.{statement}
 use Rattle.loading.proofs.load_counts.Tie as tie
 
@@ -21,7 +21,7 @@ array-read-t14 : tie.Need-array-read-t14
 array-read-t14 c = search needs
 
 returns : tie.Need-returns
-returns c = cc (counts-at (decode 8 719 (c .before .before .before .before .args .s .now)))
+returns c = cc (counts-at (wordsIn (c .before .before .before .before .args .s .now)))
 
 pub load-counts-spec : {M : Type 1} → statement M
 load-counts-spec =

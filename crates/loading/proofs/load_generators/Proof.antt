@@ -1,8 +1,8 @@
 -- `loading::load_generators` meets its contract: each figure is read at its place. Assumes nothing.
 use mathlib.Core.Path.{sym, _∙_}
 use borrow.Author.Needs.{needs}
-use Rattle.codec.specs.Bytes.{decode}
 use Rattle.layout_rules.specs.Layout.{generators-at}
+use Rattle.record_places.specs.RecordSize.{wordsIn}
 use Rattle.loading.proofs.load_generators.Statement.{statement}
 use Rattle.loading.proofs.load_generators.Tie as tie
 
@@ -51,7 +51,7 @@ returns c =
       bank = c .before .load89 .ensures i;
       pending = c .load810 .ensures i;
     }) ∙
-    sym (generators-at (decode 8 719 (start .args .s .now)))
+    sym (generators-at (wordsIn (start .args .s .now)))
 
 pub load-generators-spec : {M : Type 1} → statement M
 load-generators-spec =

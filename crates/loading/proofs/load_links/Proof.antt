@@ -1,7 +1,7 @@
 -- `loading::load_links` meets its contract: each figure is read at its place. Assumes nothing.
 use borrow.Author.Needs.{needs}
-use Rattle.codec.specs.Bytes.{decode}
 use Rattle.layout_rules.specs.Layout.{links-at}
+use Rattle.record_places.specs.RecordSize.{wordsIn}
 use Rattle.loading.proofs.load_links.Statement.{statement}
 use Rattle.loading.proofs.load_links.Tie as tie
 
@@ -12,7 +12,7 @@ load-pairs-requires-2 : tie.Need-load-pairs-requires-2
 load-pairs-requires-2 c κs = search needs
 
 returns : tie.Need-returns
-returns c = cc (links-at (decode 8 719 (c .before .before .before .args .s .now)))
+returns c = cc (links-at (wordsIn (c .before .before .before .args .s .now)))
 
 pub load-links-spec : {M : Type 1} → statement M
 load-links-spec = tie.close (tie.spec load-pairs-requires load-pairs-requires-2 returns)

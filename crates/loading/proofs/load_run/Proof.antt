@@ -5,6 +5,7 @@ use native.Mathlib.Omega.{arith}
 use lib.ListN.{length}
 use borrow.Author.Needs.{needs}
 use Rattle.codec.specs.BytesLaws.{decode-part}
+use Rattle.record_places.specs.RecordSize.{recordNumbers}
 use Rattle.loading.proofs.load_run.Statement.{statement}
 use Rattle.loading.proofs.load_run.Tie as tie
 
@@ -40,7 +41,7 @@ returns c =
     let at = start .args .at in
     let n = length (start .args .out .now) in
     let bytes : at * 8 + n * 8 - at * 8 ≡ n * 8 = omega arith in
-    (rw bytes at (call .read8 .ensures)) ∙ sym (decode-part 8 719 at n s (start .pre .1))
+    (rw bytes at (call .read8 .ensures)) ∙ sym (decode-part 8 recordNumbers at n s (start .pre .1))
 
 pub load-run-spec : {M : Type 1} → statement M
 load-run-spec =

@@ -1,7 +1,7 @@
 -- `loading::load_terms` meets its contract: each figure is read at its place. Assumes nothing.
 use borrow.Author.Needs.{needs}
-use Rattle.codec.specs.Bytes.{decode}
 use Rattle.layout_rules.specs.Layout.{terms-at}
+use Rattle.record_places.specs.RecordSize.{wordsIn}
 use Rattle.loading.proofs.load_terms.Statement.{statement}
 use Rattle.loading.proofs.load_terms.Tie as tie
 
@@ -24,7 +24,7 @@ array-read-t17 : tie.Need-array-read-t17
 array-read-t17 c = search needs
 
 returns : tie.Need-returns
-returns c = cc (terms-at (decode 8 719 (c .before .before .before .before .args .s .now)))
+returns c = cc (terms-at (wordsIn (c .before .before .before .before .args .s .now)))
 
 pub load-terms-spec : {M : Type 1} → statement M
 load-terms-spec =

@@ -86,7 +86,7 @@ returns c =
     let r : Record =
     record {
       terms = record { generators = asked .n; consumers = asked .m; rate = wide .result; cycle = wide2 .result };
-      counts = record { gone = wide3 .result; blocks = 0; month = 0 };
+      counts = record { gone = wide3 .result; unitblocks = 0; monthblocks = 0 };
       agreed = agreed .result;
       links = links .result;
       schedule = schedule .result;

@@ -25,7 +25,6 @@ load-requires : tie.Need-load-requires
 load-requires c κs = search needs
 
 returns : tie.Need-returns
-unfolding recordIn
 returns c =
     let called = c .before .before .before in
     on-struct _ _ (schedule-keeps _ _) (called .before .before .before .store .ensures .1) (c .load .ensures) (called .schedule-on .ensures)

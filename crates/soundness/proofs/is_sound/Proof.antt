@@ -13,7 +13,7 @@ counts-sound-requires c κs = search needs
 passed : (c : tie.Then1) → let a = c .before .before .before .args in countsTest (a .terms) (a .counts) ≡ true
 passed c = sym (c .before .counts-sound .ensures) ∙ c .if1 .taken
 
-fit : (c : tie.Then1) → let a = c .before .before .before .args in CountsFit (a .terms .generators) (a .terms .consumers) (a .counts .blocks)
+fit : (c : tie.Then1) → let a = c .before .before .before .args in CountsFit (a .terms .generators) (a .terms .consumers) (a .counts .unitblocks)
 fit c = counts-fit _ _ (passed c)
 
 agreed-all-sound-requires : tie.Need-agreed-all-sound-requires

@@ -1,0 +1,2 @@
+pub mod RecordSize
+pub mod Places
