@@ -1,13 +1,12 @@
 // The lists of an opening and of a schedule: their tests, and how they are read into a record's places.
-// Called by this repository's crates only: what a function requires, its callers meet.
 ghost use mathlib.Core.Path.{_≡_};
 ghost use Prim.Native.Nat.{_+_, _<_, _≤_};
 ghost use lib.ListN.{length, getD, drop};
 ghost use Rattle.lists.specs.Sums.{sum};
 ghost use Rattle.lists.specs.Tables.{table};
 ghost use Rattle.lists.specs.Pairs.{cell, pairs};
-ghost use Rattle.agreement_rules.specs.Reading.{Threes, RowAt, RowsAt, rowPut};
-ghost use Rattle.agreement_rules.specs.Refusing.{outside, columnOver};
+ghost use Rattle.agreement_rules.specs.AgreedReading.{Threes, RowAt, RowsAt, rowPut};
+ghost use Rattle.agreement_rules.specs.AgreedRefusals.{outside, columnOver};
 
 // ---- tests of the lists of a call; they are joined by & and |, which do not branch
 

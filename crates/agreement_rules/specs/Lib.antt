@@ -2,10 +2,10 @@ pub mod Opening
 pub mod Schedule
 pub mod OpeningLaws
 pub mod ScheduleLaws
-pub mod Reading
-pub mod ReadingLaws
-pub mod Refusing
-pub mod RefusingLaws
-pub mod Storing
-pub mod StoringLaws
+pub mod AgreedReading
+pub mod AgreedReadingLaws
+pub mod AgreedRefusals
+pub mod AgreedRefusalsLaws
+pub mod AgreedParts
+pub mod AgreedPartsLaws
 pub mod OpenedOn

@@ -2,9 +2,9 @@
 use Prim.Native.Nat.{ℕ}
 use mathlib.Core.List.{List}
 use mathlib.Core.Path.{_≡_}
-use Rattle.record.specs.Words.{words}
+use Rattle.record.specs.RecordWords.{words}
 use Rattle.record.specs.Stored.{stored}
-use Rattle.layout_rules.specs.OnBytes.{bytesAfter}
+use Rattle.record_layout.specs.OnBytes.{bytesAfter}
 use Rattle.agreement_rules.specs.Opening.{Opening, openingRefusal, opened}
 
 -- The opening returned the number and left bytes′: the first record's, or the bytes as they were where it was refused.

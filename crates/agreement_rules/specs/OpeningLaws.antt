@@ -15,7 +15,7 @@ use Rattle.lists.specs.Pairs.{cell}
 use Rattle.lists.specs.PairsLaws.{cell-out, cell-all}
 use Rattle.lists.specs.Refusals.{first-head, first-tail, first-none, first-end, first-or}
 use Rattle.energy.specs.Limits.{mostGenerators, mostConsumers, lastKind, mostCapacity, mostLoss, mostRate, mostCycle}
-use Rattle.delivery_rules.specs.Plan.{scheduled}
+use Rattle.record.specs.Plan.{scheduled}
 use Rattle.record.specs.SoundLaws.{Facts, AgreedFacts, PairFacts, no-injection, no-consumption}
 use Rattle.agreement_rules.specs.Opening.{Opening, sizesFit, termsFit, kindOf, installedOf, contractedOf, linkOf, rateOfLoss, openingRefusal, opened, Permitted}
 

@@ -9,7 +9,7 @@ use Rattle.lists.specs.Tests.{some, within}
 use Rattle.lists.specs.Pairs.{cell}
 use Rattle.lists.specs.Refusals.{firstOf}
 use Rattle.energy.specs.Limits.{mostRank}
-use Rattle.delivery_rules.specs.Plan.{lowerCapacity}
+use Rattle.record.specs.Plan.{lowerCapacity}
 use Rattle.record.specs.Book.{Book}
 use Rattle.record.specs.Called.{Rule, Called}
 use Rattle.record.specs.declared.Record.{Record}

@@ -13,7 +13,7 @@ use Rattle.lists.specs.Tests.{some, within, some-none, and-left, and-right, wit
 use Rattle.lists.specs.PairsLaws.{cell-out}
 use Rattle.lists.specs.Refusals.{first-head, first-tail, first-or}
 use Rattle.energy.specs.Limits.{mostRank}
-use Rattle.delivery_rules.specs.Plan.{lowerCapacity, scheduled}
+use Rattle.record.specs.Plan.{lowerCapacity, scheduled}
 use Rattle.record.specs.Book.{Book}
 use Rattle.record.specs.CalledLaws.{Keeps}
 use Rattle.record.specs.SoundLaws.{Facts, AgreedFacts, PairFacts, pair-beyond}

@@ -16,12 +16,12 @@ use Rattle.order_rules.specs.Members.{Below}
 use Rattle.order_rules.specs.Settle.{given, kept, unmet}
 use Rattle.order_rules.specs.SettleLaws.{given-le, kept-is}
 use Rattle.order_rules.specs.Among.{among, given-among, unmet-among}
-use Rattle.settling.specs.Settling.{Settled, settledIn, settled, settledBy, settled-table}
+use Rattle.order.specs.KeptStock.{Settled, settledIn, settled, settledBy, settled-table}
 use Rattle.bank.specs.declared.Bank.{Bank}
 use Rattle.bank.specs.declared.Credit.{Credit}
 use Rattle.bank.specs.declared.Draw.{Draw}
 use Rattle.bank.specs.declared.Lapse.{Lapse}
-use Rattle.bank.specs.Arrays.{creditOf, Creditable, drawOf, lapseOf}
+use Rattle.bank.specs.BankSteps.{creditOf, Creditable, drawOf, lapseOf}
 
 -- the balances as a rule by generator
 pub balances : (xs : List ℕ) → length xs ≡ 8 → xs ≡ table 8 (place 8 xs)

@@ -12,10 +12,10 @@ use Rattle.closing_rules.specs.DrawingLaws.{nothing-drawn, nothing-missing}
 use Rattle.bank.specs.declared.Bank.{Bank}
 use Rattle.bank.specs.declared.Draw.{Draw}
 use Rattle.bank.specs.declared.Drawing.{Drawing}
-use Rattle.bank.specs.Arrays.{drawOf, drawingOf}
+use Rattle.bank.specs.BankSteps.{drawOf, drawingOf}
 use Rattle.bank.specs.BankLaws.{balances, drawn-by-rule}
-use Rattle.columns.specs.Columns.{ColumnPut, Columns}
-use Rattle.columns.specs.ColumnsLaws.{columns-start, columns-step, columns-pairs}
+use Rattle.output_lists.specs.Columns.{ColumnPut, Columns}
+use Rattle.output_lists.specs.ColumnsLaws.{columns-start, columns-step, columns-pairs}
 
 module _ (serving : ℕ → List ℕ) (has want : ℕ → ℕ) where
   -- The invariant of the loop over the consumers: the first c of them have drawn.

@@ -1,3 +1,3 @@
-pub mod Arrays
+pub mod BankSteps
 pub mod BankLaws
 pub mod DrawingSteps

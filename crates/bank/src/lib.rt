@@ -1,16 +1,15 @@
 // The bank: one balance a generator, with its own calls and limits (steps 1, 2 and 4 of a closing).
-// Called by this repository's crates only: what a function requires, its callers meet.
 ghost use mathlib.Core.Path.{_≡_};
 ghost use Prim.Native.Nat.{ℕ, _-_, _<_, _≤_};
 ghost use lib.Dec.{eqb};
 ghost use Rattle.lists.specs.Tables.{table};
 ghost use Rattle.lists.specs.Pairs.{place};
 ghost use Rattle.order_rules.specs.Order.{only};
-ghost use Rattle.order.specs.Arrays.{turnsOf, Held};
+ghost use Rattle.order.specs.KeptOrder.{turnsOf, Held};
 ghost use Rattle.order_rules.specs.Among.{among};
 ghost use Rattle.energy.specs.Limits.{mostCycle};
 ghost use Rattle.closing_rules.specs.Closing.{cycleEnds};
-ghost use Rattle.bank.specs.Arrays.{Creditable, creditOf, drawOf, lapseOf};
+ghost use Rattle.bank.specs.BankSteps.{Creditable, creditOf, drawOf, lapseOf};
 use energy::Wh;
 
 pub struct Bank {
@@ -105,7 +104,7 @@ impl Bank {
     {
         let mut stock = self.linked(links);
         let mut drawn = [0u64; 8];
-        let left = settling::settle(&keys, n, &mut stock, &mut drawn, want);
+        let left = order::settle(&keys, n, &mut stock, &mut drawn, want);
         let bank = self.less(drawn);
         Draw { bank, drawn, left }
     }

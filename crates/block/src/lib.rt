@@ -1,10 +1,9 @@
 // The call `block`: rules 1 to 8 on a record.
-// A function with a `requires` is called by this repository's crates only, and they meet it.
 ghost use mathlib.Core.Path.{_≡_};
 ghost use lib.ListN.{length};
 ghost use Rattle.record.specs.Called.{numberOn};
-ghost use Rattle.layout_rules.specs.OnBytes.{CalledOn, recordIn};
-ghost use Rattle.layout_rules.specs.Head.{HeadRead};
+ghost use Rattle.record_layout.specs.OnBytes.{CalledOn, recordIn};
+ghost use Rattle.record_layout.specs.RecordHead.{HeadRead};
 ghost use Rattle.block_rules.specs.Block.{blockRule, Blocked};
 ghost use Rattle.record_places.specs.RecordSize.{recordBytes};
 use record::Answer;
@@ -39,8 +38,8 @@ pub fn block_on(s: &mut [u8], entry: &[u32], exit: &[u32], out: &mut [u64]) -> u
     requires { ⌜ length (now s) ≡ recordBytes ⌝ }
     ensures { λ r. ⌜ CalledOn (blockRule (now (entry .entry)) (now (exit .entry)) (length (now (out .entry)))) (now (s .entry)) (now (out .entry)) r (now (s .exit)) (now (out .exit)) ⌝ }
 {
-    let terms = loading::load_terms(s);
-    let counts = loading::load_counts(s);
+    let terms = record_bytes::loading::load_terms(s);
+    let counts = record_bytes::loading::load_counts(s);
     let number = refusal_on(s, terms, counts, entry, exit, out.len());
     if number == 0 {
         let n = terms.generators as usize;
@@ -58,8 +57,8 @@ pub fn block(r: Record, entry: &[u32], exit: &[u32], out: &mut [u64]) -> Answer
     ensures { λ a. ⌜ Blocked r (now (entry .entry)) (now (exit .entry)) (now (out .entry)) a (now (out .exit)) ⌝ }
 {
     let mut s = [0u8; record_places::RECORD_BYTES];
-    storing::store(r, &mut s);
+    record_bytes::storing::store(r, &mut s);
     let number = block_on(&mut s, entry, exit, out);
-    let after = loading::load(&s);
+    let after = record_bytes::loading::load(&s);
     Answer { number, after }
 }

@@ -1,5 +1,5 @@
-pub mod Lent
-pub mod LentLaws
-pub mod Rows
-pub mod RowLaws
-pub mod Filling
+pub mod DeliveryLent
+pub mod DeliveryLentLaws
+pub mod DeliveryRows
+pub mod DeliveryRowLaws
+pub mod DeliveryFilling

@@ -1,17 +1,17 @@
-// Rules 1 to 4 of a block on the record's bytes: what the entry reading of each generator delivers to each consumer, left in the
-// output slice. Called by this repository's crates only: what a function requires, its callers meet.
+// Rules 1 to 4 of a block on the record's bytes: what the entry reading of each generator delivers to each consumer, left in the output
+// slice.
 ghost use mathlib.Core.Path.{_≡_};
 ghost use mathlib.Core.List.{[]};
 ghost use Prim.Native.Nat.{ℕ, _+_, _*_, _<_, _≤_};
 ghost use lib.ListN.{length, getD};
 ghost use Rattle.lists.specs.Tables.{table};
 ghost use Rattle.energy.specs.Limits.{mostCapacity};
-ghost use Rattle.delivery_rules.specs.Delivery.{counted};
-ghost use Rattle.delivery_rules.specs.DeliveredIn.{DeliveredIn};
-ghost use Rattle.layout_rules.specs.OnBytes.{planIn};
-ghost use Rattle.block_delivery.specs.Lent.{entriesIn, Ready};
-ghost use Rattle.block_delivery.specs.Rows.{CountReady, RowReady, RowOf};
-ghost use Rattle.block_delivery.specs.Filling.{Filled};
+ghost use Rattle.block_rules.specs.Delivery.{counted};
+ghost use Rattle.block_rules.specs.DeliveredIn.{DeliveredIn};
+ghost use Rattle.record_layout.specs.OnBytes.{planIn};
+ghost use Rattle.block_delivery.specs.DeliveryLent.{entriesIn, Ready};
+ghost use Rattle.block_delivery.specs.DeliveryRows.{CountReady, RowReady, RowOf};
+ghost use Rattle.block_delivery.specs.DeliveryFilling.{Filled};
 ghost use Rattle.record_places.specs.RecordSize.{recordBytes};
 
 // The kW of generator g.
@@ -23,7 +23,7 @@ fn kw_row(s: &[u8], g: usize) -> [u32; 16]
     let mut row = [0u32; 16];
     let mut c: usize = 0;
     while c < 16 {
-        row[c] = in_place::number_at(s, from + c) as u32;
+        row[c] = record_numbers::number_at(s, from + c) as u32;
         c += 1;
     }
     row
@@ -48,9 +48,9 @@ fn counted_at(s: &[u8], g: usize, row: [u32; 16], reading: u32) -> u32
     requires { ⌜ CountReady (now s) g row ⌝ }
     ensures { λ r. ⌜ r ≡ counted (planIn (now (s .entry))) g reading ⌝ }
 {
-    let kind = in_place::number_at(s, record_places::AGREED + g * 3);
-    let scheduled = block_counting::scheduled_kw(row);
-    block_counting::counted(kind, scheduled, reading)
+    let kind = record_numbers::number_at(s, record_places::AGREED + g * 3);
+    let scheduled = block_figures::scheduled_kw(row);
+    block_figures::counted(kind, scheduled, reading)
 }
 
 // Rules 3 and 4 for generator g, whose energy is shared as `parts`: its row of the three lists. Readings are not seen here: by whichever
@@ -73,11 +73,11 @@ fn deliver_row(
     let mut c: usize = 0;
     while c < m {
         let at = g * m + c;
-        let rate = in_place::number_at(s, from + c);
-        let pair = block_pair::pair_at(kind, row, parts, c, rate);
-        columns::put_number_at(out, 0, size, at, pair.lost);
-        columns::put_number_at(out, 2 * size, size, at, pair.arrived);
-        columns::put_number_at(out, 3 * size, size, at, pair.missing);
+        let rate = record_numbers::number_at(s, from + c);
+        let pair = block_figures::pair_at(kind, row, parts, c, rate);
+        output_lists::put_number_at(out, 0, size, at, pair.lost);
+        output_lists::put_number_at(out, 2 * size, size, at, pair.arrived);
+        output_lists::put_number_at(out, 3 * size, size, at, pair.missing);
         c += 1;
     }
 }
@@ -98,9 +98,9 @@ fn deliver_one(
     let reading = entry[g];
     let counts = counted_at(s, g, row, reading);
     let parts = sharing::share(counts, row);
-    let kind = in_place::number_at(s, record_places::AGREED + g * 3);
+    let kind = record_numbers::number_at(s, record_places::AGREED + g * 3);
     deliver_row(s, n, m, g, kind, &row, &parts, out);
-    columns::put_number_at(out, 4 * (n * m), n, g, lists::wide(reading - counts));
+    output_lists::put_number_at(out, 4 * (n * m), n, g, lists::wide(reading - counts));
 }
 
 // By pair, in the stretches of loss, underdrawn and shortfall: the loss, what is delivered, and how much less that is than what is

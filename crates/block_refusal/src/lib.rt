@@ -1,9 +1,8 @@
 // The refusals of the call `block` on a sound record.
-// Called by this repository's crates only: what a function requires, its callers meet.
 ghost use mathlib.Core.Path.{_≡_};
 ghost use Prim.Native.Nat.{_≤_};
 ghost use Rattle.block_rules.specs.Block.{blockNumber};
-ghost use Rattle.block_rules.specs.Refusals.{overLimit};
+ghost use Rattle.block_rules.specs.BlockRefusals.{overLimit};
 use record::Counts;
 
 // Whether a reading is over the limit.

@@ -10,9 +10,9 @@ use Rattle.lists.specs.Tests.{some}
 use Rattle.lists.specs.Pairs.{place}
 use Rattle.lists.specs.Refusals.{firstOf}
 use Rattle.energy.specs.Limits.{mostReading, mostMonthBlocks, mostUnitBlocks}
-use Rattle.delivery_rules.specs.Plan.{deemed}
-use Rattle.delivery_rules.specs.Delivery.{unaccounted, lossOf}
-use Rattle.settlement_rules.specs.Settlement.{setOff, underdrawn, shortfall, remainder, blockOutput}
+use Rattle.record.specs.Plan.{deemed}
+use Rattle.block_rules.specs.Delivery.{unaccounted, lossOf}
+use Rattle.block_rules.specs.Settlement.{setOff, underdrawn, shortfall, remainder, blockOutput}
 use Rattle.record.specs.Book.{Book}
 use Rattle.record.specs.Called.{Rule, Called}
 use Rattle.record.specs.declared.Record.{Record}

@@ -14,9 +14,9 @@ use Rattle.lists.specs.Tests.{some, some-none, or-left, or-right, chain-at}
 use Rattle.lists.specs.PairsLaws.{place-out}
 use Rattle.lists.specs.Refusals.{first-head, first-tail, first-or}
 use Rattle.energy.specs.Limits.{mostReading, mostMonthBlocks, mostUnitBlocks}
-use Rattle.delivery_rules.specs.Plan.{deemed}
-use Rattle.settlement_rules.specs.Settlement.{setOff, underdrawn}
-use Rattle.settlement_rules.specs.SettlementLaws.{entry-split, exit-split}
+use Rattle.record.specs.Plan.{deemed}
+use Rattle.block_rules.specs.Settlement.{setOff, underdrawn}
+use Rattle.block_rules.specs.SettlementLaws.{entry-split, exit-split}
 use Rattle.record.specs.Book.{Book}
 use Rattle.record.specs.CalledLaws.{Keeps}
 use Rattle.record.specs.SoundLaws.{Facts, GeneratorFacts, ConsumerFacts}

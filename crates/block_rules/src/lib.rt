@@ -1,1 +1,1 @@
-// The rules of a block and the laws by which its calls are proved: definitions and theorems, in specs/. There is no code here.
+// What a block is, rules 1 to 8: definitions and theorems, in specs/. There is no code here.

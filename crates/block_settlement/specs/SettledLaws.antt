@@ -7,20 +7,20 @@ use native.Mathlib.Omega.{arith}
 use native.Mathlib.Nat.{eq-or-lt-of-le}
 use lib.ListN.{getD}
 use Rattle.lists.specs.PairsLaws.{cell-index}
-use Rattle.order.specs.Arrays.{turnsOf}
+use Rattle.order.specs.KeptOrder.{turnsOf}
 use Rattle.order_rules.specs.Members.{order-below}
 use Rattle.order_rules.specs.Settle.{given, unmet}
 use Rattle.order_rules.specs.SettleLaws.{kept-is}
-use Rattle.settling.specs.Settling.{settledIn, settled}
-use Rattle.delivery_rules.specs.Plan.{Plan, standing, order}
-use Rattle.delivery_rules.specs.Delivery.{delivered, atExit}
-use Rattle.delivery_rules.specs.DeliveredIn.{DeliveredIn}
-use Rattle.settlement_rules.specs.Settlement.{setOff, afterSetOff, underdrawn, shortfall, remainder, blockOutput}
-use Rattle.settlement_rules.specs.Places.{output-all}
-use Rattle.columns.specs.Columns.{ColumnGot}
+use Rattle.order.specs.KeptStock.{settledIn, settled}
+use Rattle.record.specs.Plan.{Plan, standing, order}
+use Rattle.block_rules.specs.Delivery.{delivered, atExit}
+use Rattle.block_rules.specs.DeliveredIn.{DeliveredIn}
+use Rattle.block_rules.specs.Settlement.{setOff, afterSetOff, underdrawn, shortfall, remainder, blockOutput}
+use Rattle.block_rules.specs.OutputPlaces.{output-all}
+use Rattle.output_lists.specs.Columns.{ColumnGot}
 use Rattle.block_settlement.specs.Settles.{Settles, settles}
-use Rattle.block_columns.specs.Put.{ConsumerPut}
-use Rattle.block_columns.specs.PutLaws.{left-here, loss-same, setoff-same, under-same, under-was, short-same, short-was, after-same, put-length}
+use Rattle.block_settlement.specs.ConsumerPut.{ConsumerPut}
+use Rattle.block_settlement.specs.ConsumerPutLaws.{left-here, loss-same, setoff-same, under-same, under-was, short-same, short-was, after-same, put-length}
 use Rattle.block_settlement.specs.SettledTo.{SettledTo}
 
 module _ (p : Plan) (E R : ℕ → ℕ) where

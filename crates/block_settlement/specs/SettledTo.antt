@@ -3,9 +3,9 @@ use Prim.Native.Nat.{ℕ, _+_, _-_, _*_, _≤_, _<_}
 use mathlib.Core.Path.{_≡_}
 use mathlib.Core.List.{List}
 use lib.ListN.{length, getD}
-use Rattle.delivery_rules.specs.Plan.{Plan}
-use Rattle.delivery_rules.specs.Delivery.{unaccounted, lossOf, delivered, atExit}
-use Rattle.settlement_rules.specs.Settlement.{setOff, underdrawn, shortfall, remainder}
+use Rattle.record.specs.Plan.{Plan}
+use Rattle.block_rules.specs.Delivery.{unaccounted, lossOf, delivered, atExit}
+use Rattle.block_rules.specs.Settlement.{setOff, underdrawn, shortfall, remainder}
 
 -- The first i consumers are settled; the others are as rules 1 to 4 leave them.
 pub record SettledTo (p : Plan) (E R : ℕ → ℕ) (i : ℕ) (out : List ℕ) : Type 0 where

@@ -10,7 +10,7 @@ use Rattle.lists.specs.PairsLaws.{place-in}
 use Rattle.order_rules.specs.Members.{Below}
 use Rattle.order_rules.specs.Settle.{given, kept, unmet}
 use Rattle.order_rules.specs.SettleLaws.{settle-same}
-use Rattle.settling.specs.Settling.{Settled, settledIn, settledBy, settled}
+use Rattle.order.specs.KeptStock.{Settled, settledIn, settledBy, settled}
 
 pub record Settles (n : ℕ) (gs : List ℕ) (f : ℕ → ℕ) (want : ℕ) (taken rest : List ℕ) (left : ℕ) : Type 0 where
   pub taken-is : (g : ℕ) → g < n → getD taken g 0 ≡ given gs f want g

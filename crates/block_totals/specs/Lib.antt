@@ -1,3 +1,3 @@
-pub mod Totals
-pub mod TotalsLaws
-pub mod AfterLaws
+pub mod BlockTotals
+pub mod BlockTotalsLaws
+pub mod BlockAfterLaws

@@ -1,18 +1,17 @@
-// Rule 8 of a block: the counts and the totals of a record are raised where they stand in its bytes. Called by this repository's
-// crates only: what a function requires, its callers meet.
+// Rule 8 of a block: the counts and the totals of a record are raised where they stand in its bytes.
 ghost use mathlib.Core.Path.{_≡_};
 ghost use Prim.Native.Nat.{_+_, _*_, _≤_, _<_};
 ghost use lib.ListN.{length};
 ghost use Rattle.energy.specs.Limits.{mostFigure};
-ghost use Rattle.arrays.specs.Bounds.{Moderate};
+ghost use Rattle.output_lists.specs.Bounds.{Moderate};
 ghost use Rattle.codec.specs.Bytes.{encode};
 ghost use Rattle.record.specs.Stored.{stored};
-ghost use Rattle.record.specs.Words.{words};
+ghost use Rattle.record.specs.RecordWords.{words};
 ghost use Rattle.block_rules.specs.Block.{entryOf, exitOf, afterBlock};
-ghost use Rattle.layout_rules.specs.OnBytes.{bookIn, recordIn};
-ghost use Rattle.layout_rules.specs.Raised.{from};
-ghost use Rattle.raising.specs.Raise.{rowSum, Raised, mostRaised, Raisable};
-ghost use Rattle.block_totals.specs.Totals.{underdrawnPlace, generatorsRaised, consumersRaised, BlockLists, Settled};
+ghost use Rattle.record_layout.specs.OnBytes.{bookIn, recordIn};
+ghost use Rattle.record_layout.specs.NumbersRaised.{from};
+ghost use Rattle.record_runs.specs.Raise.{rowSum, Raised, mostRaised, Raisable};
+ghost use Rattle.block_totals.specs.BlockTotals.{underdrawnPlace, generatorsRaised, consumersRaised, BlockLists, Settled};
 ghost use Rattle.record_places.specs.RecordSize.{recordBytes, wordsIn};
 ghost use Rattle.record_places.specs.Places.{unitBlocksAt, injectedAt, inadvertentAt, meteredAt};
 use record::Counts;
@@ -21,7 +20,7 @@ fn underdrawn_place(s: &[u8], g: usize) -> usize
     requires { ⌜ (length (now s) ≡ recordBytes) × (g < 8) ⌝ }
     ensures { λ r. ⌜ r ≡ underdrawnPlace (wordsIn (now (s .entry))) g ⌝ }
 {
-    if in_place::number_at(s, record_places::AGREED + g * 3) == 0 {
+    if record_numbers::number_at(s, record_places::AGREED + g * 3) == 0 {
         return record_places::INADVERTENT + g;
     }
     record_places::PENDING + g
@@ -35,7 +34,7 @@ fn raise_underdrawn(s: &mut [u8], xs: &[u64], first: usize, n: usize, m: usize)
     let mut g: usize = 0;
     while g < n {
         let at = underdrawn_place(s, g);
-        in_place::add_at(s, at, raising::row_sum(xs, first, m, g));
+        record_numbers::add_at(s, at, record_runs::row_sum(xs, first, m, g));
         g += 1;
     }
 }
@@ -45,10 +44,10 @@ fn raise_generators(s: &mut [u8], entry: &[u32], out: &[u64], n: usize, m: usize
     ensures { λ _. ⌜ wordsIn (now (s .exit)) ≡ generatorsRaised n m (now (entry .entry)) (now (out .entry)) (wordsIn (now (s .entry))) ⌝ }
 {
     let size = n * m;
-    raising::raise_readings(s, record_places::INJECTED, entry);
-    raising::raise_numbers(s, record_places::UNACCOUNTED, out, 4 * size, n);
-    raising::raise_rows(s, record_places::LOST, out, 0, n, m);
-    raising::raise_rows(s, record_places::GENERATOR_SET_OFF, out, size, n, m);
+    record_runs::raise_readings(s, record_places::INJECTED, entry);
+    record_runs::raise_numbers(s, record_places::UNACCOUNTED, out, 4 * size, n);
+    record_runs::raise_rows(s, record_places::LOST, out, 0, n, m);
+    record_runs::raise_rows(s, record_places::GENERATOR_SET_OFF, out, size, n, m);
     raise_underdrawn(s, out, 2 * size, n, m);
 }
 
@@ -57,10 +56,10 @@ fn raise_consumers(s: &mut [u8], exit: &[u32], out: &[u64], n: usize, m: usize)
     ensures { λ _. ⌜ wordsIn (now (s .exit)) ≡ consumersRaised n m (now (exit .entry)) (now (out .entry)) (wordsIn (now (s .entry))) ⌝ }
 {
     let size = n * m;
-    raising::raise_readings(s, record_places::METERED, exit);
-    raising::raise_columns(s, record_places::CONSUMER_SET_OFF, out, size, n, m);
-    raising::raise_columns(s, record_places::SHORTFALL, out, 3 * size, n, m);
-    raising::raise_numbers(s, record_places::OUTSTANDING, out, 4 * size + n, m);
+    record_runs::raise_readings(s, record_places::METERED, exit);
+    record_runs::raise_columns(s, record_places::CONSUMER_SET_OFF, out, size, n, m);
+    record_runs::raise_columns(s, record_places::SHORTFALL, out, 3 * size, n, m);
+    record_runs::raise_numbers(s, record_places::OUTSTANDING, out, 4 * size + n, m);
 }
 
 // One block more of the unit and of the month than was read.
@@ -68,8 +67,8 @@ fn raise_counts(s: &mut [u8], counts: Counts)
     requires { ⌜ Raisable unitBlocksAt 2 mostFigure (now s) × (counts ≡ recordIn (now s) .counts) ⌝ }
     ensures { λ _. ⌜ Raised (from unitBlocksAt) 2 (λ i. 1) (now (s .entry)) (now (s .exit)) ⌝ }
 {
-    in_place::put_at(s, record_places::UNIT_BLOCKS, counts.unitblocks + 1);
-    in_place::put_at(s, record_places::MONTH_BLOCKS, counts.monthblocks + 1);
+    record_numbers::put_at(s, record_places::UNIT_BLOCKS, counts.unitblocks + 1);
+    record_numbers::put_at(s, record_places::MONTH_BLOCKS, counts.monthblocks + 1);
 }
 
 // The record after a block whose lists stand in `out`.

@@ -1,10 +1,9 @@
 // The call `close`: steps 1 to 4 of closing a month, on a record.
-// A function with a `requires` is called by this repository's crates only, and they meet it.
 ghost use mathlib.Core.Path.{_≡_};
 ghost use lib.ListN.{length};
 ghost use Rattle.record.specs.Called.{numberOn};
-ghost use Rattle.layout_rules.specs.OnBytes.{CalledOn, recordIn};
-ghost use Rattle.layout_rules.specs.Head.{HeadRead};
+ghost use Rattle.record_layout.specs.OnBytes.{CalledOn, recordIn};
+ghost use Rattle.record_layout.specs.RecordHead.{HeadRead};
 ghost use Rattle.closing_rules.specs.Closing.{closingRule, Closed};
 ghost use Rattle.record_places.specs.RecordSize.{recordBytes};
 use record::Answer;
@@ -32,8 +31,8 @@ pub fn close_on(s: &mut [u8], out: &mut [u64]) -> u32
     requires { ⌜ length (now s) ≡ recordBytes ⌝ }
     ensures { λ r. ⌜ CalledOn (closingRule (length (now (out .entry)))) (now (s .entry)) (now (out .entry)) r (now (s .exit)) (now (out .exit)) ⌝ }
 {
-    let terms = loading::load_terms(s);
-    let counts = loading::load_counts(s);
+    let terms = record_bytes::loading::load_terms(s);
+    let counts = record_bytes::loading::load_counts(s);
     let number = refusal_on(s, terms, counts, out.len());
     if number == 0 {
         closing_lists::make(s, terms, counts, out);
@@ -48,8 +47,8 @@ pub fn close(r: Record, out: &mut [u64]) -> Answer
     ensures { λ a. ⌜ Closed r (now (out .entry)) a (now (out .exit)) ⌝ }
 {
     let mut s = [0u8; record_places::RECORD_BYTES];
-    storing::store(r, &mut s);
+    record_bytes::storing::store(r, &mut s);
     let number = close_on(&mut s, out);
-    let after = loading::load(&s);
+    let after = record_bytes::loading::load(&s);
     Answer { number, after }
 }

@@ -3,8 +3,8 @@ use Prim.Native.Nat.{ℕ, _≤_}
 use mathlib.Core.Path.{_≡_}
 use mathlib.Core.List.{List}
 use Rattle.lists.specs.Pairs.{place}
-use Rattle.delivery_rules.specs.Plan.{Plan}
-use Rattle.delivery_rules.specs.Orderable.{Orderable}
+use Rattle.record.specs.Plan.{Plan}
+use Rattle.record.specs.Orderable.{Orderable}
 
 -- what a sound record gives to n generators and m consumers: an order, and nobody beyond who wants anything
 pub record Drawable (p : Plan) (n m : ℕ) (outstanding : List ℕ) : Type 0 where

@@ -1,5 +1,5 @@
 pub mod Drawable
-pub mod Month
-pub mod Output
-pub mod Accepted
-pub mod Reading
+pub mod ClosingMonth
+pub mod ClosingWritten
+pub mod ClosingAccepted
+pub mod ClosingReading

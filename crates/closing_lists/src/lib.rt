@@ -1,15 +1,14 @@
 // The lists of a closing, made in the slice of its output.
-// Called by this repository's crates only: what a function requires, its callers meet.
 ghost use mathlib.Core.Path.{_≡_};
 ghost use lib.ListN.{length};
-ghost use Rattle.delivery_rules.specs.Plan.{suppliers};
+ghost use Rattle.record.specs.Plan.{suppliers};
 ghost use Rattle.record.specs.Called.{numberOn};
-ghost use Rattle.layout_rules.specs.OnBytes.{planIn, bookIn, recordIn};
-ghost use Rattle.layout_rules.specs.Head.{HeadRead};
-ghost use Rattle.bank.specs.Arrays.{drawingOf};
+ghost use Rattle.record_layout.specs.OnBytes.{planIn, bookIn, recordIn};
+ghost use Rattle.record_layout.specs.RecordHead.{HeadRead};
+ghost use Rattle.bank.specs.BankSteps.{drawingOf};
 ghost use Rattle.closing_rules.specs.Closing.{closingOutput, closingRule};
 ghost use Rattle.closing_lists.specs.Drawable.{Drawable};
-ghost use Rattle.closing_lists.specs.Output.{OutputRoom, sixLists};
+ghost use Rattle.closing_lists.specs.ClosingWritten.{OutputRoom, sixLists};
 ghost use Rattle.record_places.specs.RecordSize.{recordBytes};
 use bank::Bank;
 use bank::Drawing;
@@ -27,12 +26,12 @@ fn draw_all(s: &[u8], bank: Bank, n: usize, m: usize, outstanding: [u64; 16]) ->
     let mut left = bank;
     let mut c: usize = 0;
     while c < m {
-        let keys = turns::turns_at(s, n, c);
-        let links = in_place::column_at(s, record_places::LINK + c);
+        let keys = record_order::turns_at(s, n, c);
+        let links = record_numbers::column_at(s, record_places::LINK + c);
         let turn = left.draw(n, keys, links, outstanding[c]);
         let column = turn.drawn;
         let next = turn.bank;
-        columns::put_column(&mut drawn, 8, 16, c, &column);
+        output_lists::put_column(&mut drawn, 8, 16, c, &column);
         supplied[c] = turn.left;
         left = next;
         c += 1;
@@ -64,12 +63,12 @@ fn write_lists(
     let bank_at = lapsed_at + n;
     let open_at = bank_at + n;
     let supplied_at = open_at + m;
-    arrays::put_pairs(out, 0, drawn, n, m);
-    arrays::put8(out, size, &charge, n);
-    arrays::put8(out, lapsed_at, &lapsed, n);
-    arrays::put8(out, bank_at, &balance, n);
-    arrays::put16(out, open_at, &outstanding, m);
-    arrays::put16(out, supplied_at, &supplied, m);
+    output_lists::put_pairs(out, 0, drawn, n, m);
+    output_lists::put8(out, size, &charge, n);
+    output_lists::put8(out, lapsed_at, &lapsed, n);
+    output_lists::put8(out, bank_at, &balance, n);
+    output_lists::put16(out, open_at, &outstanding, m);
+    output_lists::put16(out, supplied_at, &supplied, m);
 }
 
 // Steps 1 to 4 on what the record holds for them, and their lists into the slice.
@@ -79,9 +78,9 @@ pub fn make(s: &[u8], terms: Terms, counts: Counts, out: &mut [u64])
 {
     let n = terms.generators as usize;
     let m = terms.consumers as usize;
-    let held = loading::load8(s, record_places::BANK);
-    let pending = loading::load8(s, record_places::PENDING);
-    let outstanding = loading::load16(s, record_places::OUTSTANDING);
+    let held = record_bytes::loading::load8(s, record_places::BANK);
+    let pending = record_bytes::loading::load8(s, record_places::PENDING);
+    let outstanding = record_bytes::loading::load16(s, record_places::OUTSTANDING);
     let before = Bank { balance: held };
     let credit = before.credit(pending, terms.rate);
     let charge = credit.charge;

@@ -1,5 +1,4 @@
 // The refusals of the call `close` on a sound record.
-// Called by this repository's crates only: what a function requires, its callers meet.
 ghost use mathlib.Core.Path.{_≡_};
 ghost use Prim.Native.Nat.{_≤_};
 ghost use Rattle.closing_rules.specs.Closing.{closingNumber};

@@ -13,8 +13,8 @@ use Rattle.lists.specs.Refusals.{firstOf, first-or}
 use Rattle.energy.specs.EnergyLaws.{portion-le}
 use Rattle.order_rules.specs.Members.{In, order-in, only-in}
 use Rattle.order_rules.specs.OrderLaws.{Ahead, order-sorted, only-sorted}
-use Rattle.delivery_rules.specs.Plan.{standing, order, suppliers}
-use Rattle.delivery_rules.specs.DeliveryLaws.{suppliers-within}
+use Rattle.record.specs.Plan.{standing, order, suppliers}
+use Rattle.record.specs.PlanLaws.{suppliers-within}
 use Rattle.record.specs.Book.{Book}
 use Rattle.record.specs.CalledLaws.{Keeps}
 use Rattle.record.specs.SoundLaws.{Facts, GeneratorFacts, ConsumerFacts}

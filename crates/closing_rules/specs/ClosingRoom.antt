@@ -2,8 +2,8 @@
 use Prim.Native.Nat.{ℕ, _≤_}
 use native.Mathlib.Omega.{arith}
 use Rattle.energy.specs.Limits.{mostFigure}
-use Rattle.arrays.specs.Bounds.{Moderate}
-use Rattle.arrays.specs.BoundsLaws.{moderate-table, moderate-rows, no-more, and-then, moderate-joined}
+use Rattle.output_lists.specs.Bounds.{Moderate}
+use Rattle.output_lists.specs.BoundsLaws.{moderate-table, moderate-rows, no-more, and-then, moderate-joined}
 use Rattle.record.specs.Book.{Book}
 use Rattle.record.specs.SoundLaws.{Facts, injected-most, metered-most}
 use Rattle.closing_rules.specs.Closing.{takenUp, charge, credited, drawn, supplied, lapsed, bankAfter, closingLists, closingOutput}

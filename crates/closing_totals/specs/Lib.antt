@@ -1,3 +1,3 @@
-pub mod Totals
-pub mod TotalsLaws
-pub mod AfterLaws
+pub mod ClosingTotals
+pub mod ClosingTotalsLaws
+pub mod ClosingAfterLaws

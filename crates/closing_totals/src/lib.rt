@@ -1,5 +1,4 @@
 // A closing's totals and the start of the next month: the record after it is made where it stands in the bytes, from the closing's lists.
-// Called by this repository's crates only: what a function requires, its callers meet.
 ghost use mathlib.Core.Path.{_≡_};
 ghost use Prim.Native.Nat.{_+_, _≤_};
 ghost use lib.ListN.{length};
@@ -7,12 +6,12 @@ ghost use Rattle.lists.specs.Choice.{if_then_else_};
 ghost use Rattle.energy.specs.Limits.{mostCycle, mostFigure};
 ghost use Rattle.codec.specs.Bytes.{encode};
 ghost use Rattle.record.specs.Stored.{stored};
-ghost use Rattle.record.specs.Words.{words};
-ghost use Rattle.layout_rules.specs.OnBytes.{bookIn};
-ghost use Rattle.layout_rules.specs.Head.{HeadRead};
-ghost use Rattle.raising.specs.Raise.{Raisable};
+ghost use Rattle.record.specs.RecordWords.{words};
+ghost use Rattle.record_layout.specs.OnBytes.{bookIn};
+ghost use Rattle.record_layout.specs.RecordHead.{HeadRead};
+ghost use Rattle.record_runs.specs.Raise.{Raisable};
 ghost use Rattle.closing_rules.specs.Closing.{cycleEnds, afterClosing};
-ghost use Rattle.closing_totals.specs.Totals.{countsAfter, totalsRaised, stocksReplaced, ClosingLists, Listed};
+ghost use Rattle.closing_totals.specs.ClosingTotals.{countsAfter, totalsRaised, stocksReplaced, ClosingLists, Listed};
 ghost use Rattle.record_places.specs.RecordSize.{recordBytes, wordsIn};
 ghost use Rattle.record_places.specs.Places.{chargeAt};
 use bank::Bank;
@@ -34,8 +33,8 @@ fn start_month(s: &mut [u8], terms: Terms, counts: Counts)
     ensures { λ _. ⌜ wordsIn (now (s .exit)) ≡ countsAfter (wordsIn (now (s .entry))) ⌝ }
 {
     let gone = months_gone(counts.gone, terms.cycle);
-    in_place::put_at(s, record_places::GONE, gone);
-    in_place::put_at(s, record_places::MONTH_BLOCKS, 0);
+    record_numbers::put_at(s, record_places::GONE, gone);
+    record_numbers::put_at(s, record_places::MONTH_BLOCKS, 0);
 }
 
 fn raise_totals(s: &mut [u8], out: &[u64], n: usize, m: usize)
@@ -44,11 +43,11 @@ fn raise_totals(s: &mut [u8], out: &[u64], n: usize, m: usize)
 {
     let size = n * m;
     let lapsed = size + n;
-    raising::raise_numbers(s, record_places::CHARGE, out, size, n);
-    raising::raise_rows(s, record_places::GENERATOR_DRAWN, out, 0, n, m);
-    raising::raise_numbers(s, record_places::LAPSED, out, lapsed, n);
-    raising::raise_columns(s, record_places::CONSUMER_DRAWN, out, 0, n, m);
-    raising::raise_numbers(s, record_places::SUPPLIED, out, size + 3 * n + m, m);
+    record_runs::raise_numbers(s, record_places::CHARGE, out, size, n);
+    record_runs::raise_rows(s, record_places::GENERATOR_DRAWN, out, 0, n, m);
+    record_runs::raise_numbers(s, record_places::LAPSED, out, lapsed, n);
+    record_runs::raise_columns(s, record_places::CONSUMER_DRAWN, out, 0, n, m);
+    record_runs::raise_numbers(s, record_places::SUPPLIED, out, size + 3 * n + m, m);
 }
 
 // The bank that is left, and nothing pending or open.
@@ -56,9 +55,9 @@ fn replace_stocks(s: &mut [u8], out: &[u64], n: usize, m: usize)
     requires { ⌜ (length (now s) ≡ recordBytes) × ClosingLists n m (now out) ⌝ }
     ensures { λ _. ⌜ wordsIn (now (s .exit)) ≡ stocksReplaced n m (now (out .entry)) (wordsIn (now (s .entry))) ⌝ }
 {
-    raising::replace_numbers(s, record_places::BANK, out, n * m + 2 * n, n);
-    raising::clear_numbers(s, record_places::PENDING, n);
-    raising::clear_numbers(s, record_places::OUTSTANDING, m);
+    record_runs::replace_numbers(s, record_places::BANK, out, n * m + 2 * n, n);
+    record_runs::clear_numbers(s, record_places::PENDING, n);
+    record_runs::clear_numbers(s, record_places::OUTSTANDING, m);
 }
 
 // The record after a closing whose lists stand in `out`.

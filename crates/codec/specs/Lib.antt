@@ -1,3 +1,3 @@
 pub mod Bytes
 pub mod BytesLaws
-pub mod Put
+pub mod BytesPut

@@ -1,12 +1,11 @@
 // Numbers as bytes, low byte first: 4 bytes a number in the inputs, 8 in the outputs and in the record.
-// Called by this repository's crates only: what a function requires, its callers meet.
 ghost use mathlib.Core.Path.{_≡_};
 ghost use mathlib.Core.List.{[], _∷_};
 ghost use Prim.Native.Nat.{_+_, _*_, _≤_};
 ghost use lib.ListN.{length, take, drop};
 ghost use lib.Seq.{sets};
 ghost use Rattle.codec.specs.Bytes.{number, bytes, encode, decode};
-ghost use Rattle.codec.specs.Put.{Put};
+ghost use Rattle.codec.specs.BytesPut.{Put};
 
 // A sum of weighted bytes is what LLVM reads as one load.
 fn join4(b0: u8, b1: u8, b2: u8, b3: u8) -> u32

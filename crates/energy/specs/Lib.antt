@@ -1,4 +1,4 @@
 pub mod Limits
 pub mod Energy
 pub mod EnergyLaws
-pub mod Requirements
+pub mod Portionable

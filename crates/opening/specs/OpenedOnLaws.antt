@@ -4,11 +4,11 @@ use mathlib.Core.List.{List}
 use mathlib.Core.Path.{_≡_, sym, ap, _∙_}
 use borrow.Author.Tests.{eq-eqb}
 use Rattle.record.specs.declared.Record.{Record}
-use Rattle.layout_rules.specs.OnBytes.{bytesAfter, recordIn}
-use Rattle.layout_rules.specs.LayoutLaws.{record-of-bytes}
+use Rattle.record_layout.specs.OnBytes.{bytesAfter, recordIn}
+use Rattle.record_layout.specs.LayoutLaws.{record-of-bytes}
 use Rattle.agreement_rules.specs.Opening.{Opening, openingRefusal, opened, Opened}
 use Rattle.agreement_rules.specs.OpeningLaws.{accepted-permitted, opened-facts}
-use Rattle.agreement_rules.specs.StoringLaws.{opening-accepted}
+use Rattle.agreement_rules.specs.AgreedPartsLaws.{opening-accepted}
 use Rattle.agreement_rules.specs.OpenedOn.{OpenedOn}
 
 -- the record of an accepted opening, read back from the bytes

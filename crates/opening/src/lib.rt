@@ -1,5 +1,4 @@
 // Opening a unit: the call's number on the display, and the first record.
-// A function with a `requires` is called by this repository's crates only, and they meet it.
 ghost use mathlib.Core.Path.{_≡_};
 ghost use Prim.Native.Nat.{_*_, _≤_};
 ghost use lib.ListN.{length};
@@ -7,10 +6,10 @@ ghost use Rattle.codec.specs.Bytes.{encode};
 ghost use Rattle.energy.specs.Limits.{mostGenerators, mostConsumers};
 ghost use Rattle.record.specs.Book.{noInjection, noConsumption};
 ghost use Rattle.record.specs.Stored.{storedGenerators, storedConsumers, stored, zeros};
-ghost use Rattle.record.specs.Words.{words};
+ghost use Rattle.record.specs.RecordWords.{words};
 ghost use Rattle.agreement_rules.specs.Opening.{asked, opened, Opened, Permitted};
-ghost use Rattle.agreement_rules.specs.Reading.{Threes};
-ghost use Rattle.agreement_rules.specs.Storing.{agreedFrom, linksFrom, firstSchedule};
+ghost use Rattle.agreement_rules.specs.AgreedReading.{Threes};
+ghost use Rattle.agreement_rules.specs.AgreedParts.{agreedFrom, linksFrom, firstSchedule};
 ghost use Rattle.agreement_rules.specs.OpenedOn.{OpenedOn};
 ghost use Rattle.record_places.specs.RecordSize.{recordBytes};
 
@@ -139,23 +138,23 @@ fn store_opened(
         rate: lists::wide(rate),
         cycle: lists::wide(cycle),
     };
-    storing::store_terms(terms, s);
+    record_bytes::storing::store_terms(terms, s);
     let counts = record::Counts {
         gone: lists::wide(gone),
         unitblocks: 0,
         monthblocks: 0,
     };
-    storing::store_counts(counts, s);
+    record_bytes::storing::store_counts(counts, s);
     let agreed = agreed_from(n, generator_list);
-    storing::store_agreed(agreed, s);
+    record_bytes::storing::store_agreed(agreed, s);
     let links = links_from(n, m, pair_list);
-    storing::store_links(links, s);
+    record_bytes::storing::store_links(links, s);
     let schedule = first_schedule(n, m);
-    storing::store_schedule(schedule, s);
+    record_bytes::storing::store_schedule(schedule, s);
     let generators = no_injection();
-    storing::store_generators(generators, s);
+    record_bytes::storing::store_generators(generators, s);
     let consumers = no_consumption();
-    storing::store_consumers(consumers, s);
+    record_bytes::storing::store_consumers(consumers, s);
 }
 
 // Opens a unit in a record's bytes, whatever they hold; a refused opening leaves them as they were.
@@ -206,7 +205,7 @@ pub fn opening(
         &mut s,
     );
     if number == 0 {
-        let after = loading::load(&s);
+        let after = record_bytes::loading::load(&s);
         record::Answer { number: 0, after }
     } else {
         let after = zero_record();

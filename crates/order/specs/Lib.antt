@@ -1,2 +1,3 @@
-pub mod Keys
-pub mod Arrays
+pub mod OrderKeys
+pub mod KeptOrder
+pub mod KeptStock

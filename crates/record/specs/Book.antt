@@ -1,6 +1,6 @@
 -- The book: the figures that the record lists. Generators and consumers are counted from 0. Assumes nothing.
 use Prim.Native.Nat.{ℕ, _+_}
-use Rattle.delivery_rules.specs.Plan.{Plan}
+use Rattle.record.specs.Plan.{Plan}
 use Rattle.record.specs.declared.GeneratorTerms.{GeneratorTerms}
 use Rattle.record.specs.declared.ConsumerTerms.{ConsumerTerms}
 

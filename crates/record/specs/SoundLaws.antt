@@ -11,8 +11,8 @@ use borrow.Author.Tests.{leb-true, eqb-true, eqb-false, ltb-true, ltb-false, le-
 use Rattle.lists.specs.Sums.{sum-zero, sum-part}
 use Rattle.lists.specs.Tests.{all, within, all-at, all-from, and-left, and-right, and-both, chain-at, within-low, within-high, within-from}
 use Rattle.energy.specs.Limits.{mostGenerators, mostConsumers, lastKind, mostCapacity, mostLoss, mostRate, mostCycle, mostRank, mostReading, mostMonthBlocks, mostUnitBlocks, mostFigure}
-use Rattle.delivery_rules.specs.Plan.{lowerCapacity, scheduled}
-use Rattle.delivery_rules.specs.Orderable.{Orderable}
+use Rattle.record.specs.Plan.{lowerCapacity, scheduled}
+use Rattle.record.specs.Orderable.{Orderable}
 use Rattle.record.specs.Book.{Book, splitOfInjected, splitOfMetered, noInjection, noConsumption}
 use Rattle.record.specs.Sound.{limit, countsSound, agreedSound, pairSound, generatorSound, consumerSound, sound}
 use Rattle.record.specs.declared.GeneratorTerms.{GeneratorTerms}

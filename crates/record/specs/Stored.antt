@@ -2,7 +2,7 @@
 use Prim.Native.Nat.{ℕ}
 use Rattle.lists.specs.Tables.{table}
 use Rattle.lists.specs.Pairs.{place, cell, pairs}
-use Rattle.delivery_rules.specs.Plan.{Plan}
+use Rattle.record.specs.Plan.{Plan}
 use Rattle.record.specs.Book.{Book, noInjection, noConsumption}
 use Rattle.record.specs.declared.Record.{Record}
 use Rattle.record.specs.declared.Generators.{Generators}

@@ -1,2 +1,2 @@
-pub mod Accepted
-pub mod Entered
+pub mod ScheduleAccepted
+pub mod ScheduleEntered

@@ -1,5 +1,4 @@
 // Giving a unit a schedule: the call's number on the display, and the new schedule in the record's bytes.
-// A function with a `requires` is called by this repository's crates only, and they meet it.
 ghost use mathlib.Core.Path.{_≡_};
 ghost use mathlib.Core.List.{[]};
 ghost use lib.ListN.{length, getD};
@@ -7,14 +6,14 @@ ghost use Rattle.lists.specs.Pairs.{cell, pairs};
 ghost use Rattle.codec.specs.Bytes.{encode};
 ghost use Rattle.record.specs.Called.{numberOn};
 ghost use Rattle.record.specs.Stored.{stored};
-ghost use Rattle.record.specs.Words.{words};
-ghost use Rattle.layout_rules.specs.OnBytes.{CalledOn, bookIn, recordIn};
-ghost use Rattle.layout_rules.specs.Head.{HeadRead};
-ghost use Rattle.layout_rules.specs.Raised.{from};
-ghost use Rattle.agreement_rules.specs.Reading.{RowsAt};
+ghost use Rattle.record.specs.RecordWords.{words};
+ghost use Rattle.record_layout.specs.OnBytes.{CalledOn, bookIn, recordIn};
+ghost use Rattle.record_layout.specs.RecordHead.{HeadRead};
+ghost use Rattle.record_layout.specs.NumbersRaised.{from};
+ghost use Rattle.agreement_rules.specs.AgreedReading.{RowsAt};
 ghost use Rattle.agreement_rules.specs.Schedule.{afterSchedule, scheduleRule, Scheduled};
-ghost use Rattle.raising.specs.Raise.{Replaced, Replaceable};
-ghost use Rattle.schedule.specs.Accepted.{Accepted};
+ghost use Rattle.record_runs.specs.Raise.{Replaced, Replaceable};
+ghost use Rattle.schedule.specs.ScheduleAccepted.{Accepted};
 ghost use Rattle.record_places.specs.RecordSize.{recordBytes};
 use record::Counts;
 use record::Terms;
@@ -25,8 +24,8 @@ fn refusal_on(s: &[u8], terms: Terms, counts: Counts, kws: &[u32], ranks: &[u32]
     ensures { λ x. ⌜ x ≡ numberOn (scheduleRule (now (kws .entry)) (now (ranks .entry))) (recordIn (now (s .entry))) ⌝ }
 {
     if soundness::is_sound(s, terms, counts) {
-        let agreed = loading::load_agreed(s);
-        let link = loading::load_pairs(s, record_places::LINK);
+        let agreed = record_bytes::loading::load_agreed(s);
+        let link = record_bytes::loading::load_pairs(s, record_places::LINK);
         let n = terms.generators as usize;
         let m = terms.consumers as usize;
         schedule_refusal::refusal(agreed, &link, n, m, kws, ranks)
@@ -41,7 +40,7 @@ fn put_list(s: &mut [u8], at: usize, list: &[u32], n: usize, m: usize)
     ensures { λ _. ⌜ Replaced (from at) 128 (λ i. getD (pairs 8 16 (cell n m (now (list .entry)))) i 0) (now (s .entry)) (now (s .exit)) ⌝ }
 {
     let rows = agreed_lists::spread(list, 0, n, m);
-    raising::replace_numbers(s, at, &rows, 0, 128);
+    record_runs::replace_numbers(s, at, &rows, 0, 128);
 }
 
 // Puts an accepted schedule in the former one's place.
@@ -58,8 +57,8 @@ pub fn schedule_on(s: &mut [u8], kws: &[u32], ranks: &[u32]) -> u32
     requires { ⌜ length (now s) ≡ recordBytes ⌝ }
     ensures { λ r. ⌜ CalledOn (scheduleRule (now (kws .entry)) (now (ranks .entry))) (now (s .entry)) [] r (now (s .exit)) [] ⌝ }
 {
-    let terms = loading::load_terms(s);
-    let counts = loading::load_counts(s);
+    let terms = record_bytes::loading::load_terms(s);
+    let counts = record_bytes::loading::load_counts(s);
     let number = refusal_on(s, terms, counts, kws, ranks);
     if number == 0 {
         let n = terms.generators as usize;
@@ -75,8 +74,8 @@ pub fn schedule(r: record::Record, kws: &[u32], ranks: &[u32]) -> record::Answer
     ensures { λ a. ⌜ Scheduled r (now (kws .entry)) (now (ranks .entry)) a ⌝ }
 {
     let mut s = [0u8; record_places::RECORD_BYTES];
-    storing::store(r, &mut s);
+    record_bytes::storing::store(r, &mut s);
     let number = schedule_on(&mut s, kws, ranks);
-    let after = loading::load(&s);
+    let after = record_bytes::loading::load(&s);
     record::Answer { number, after }
 }

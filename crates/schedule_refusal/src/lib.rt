@@ -1,5 +1,4 @@
 // The refusals of the call `schedule` on a sound record. Tests are joined by & and |, which do not branch.
-// Called by this repository's crates only: what a function requires, its callers meet.
 ghost use mathlib.Core.Path.{_≡_};
 ghost use mathlib.Core.Bool.{_&&_};
 ghost use Prim.Native.Nat.{_+_, _*_, _<_, _≤_};
@@ -7,8 +6,8 @@ ghost use lib.Dec.{eqb, ltb};
 ghost use lib.ListN.{getD};
 ghost use Rattle.lists.specs.Tests.{some};
 ghost use Rattle.energy.specs.Limits.{mostGenerators, mostConsumers};
-ghost use Rattle.agreement_rules.specs.Reading.{RowAt, RowsAt};
-ghost use Rattle.agreement_rules.specs.Refusing.{offLink, overCapacity, refusalOn};
+ghost use Rattle.agreement_rules.specs.AgreedReading.{RowAt, RowsAt};
+ghost use Rattle.agreement_rules.specs.AgreedRefusals.{offLink, overCapacity, refusalOn};
 
 // Whether generator g has kW for a consumer that it is not linked to; its m figures start at place `from`.
 fn row_off_link(link: &[u64; 128], g: usize, kws: &[u32], from: usize, m: usize) -> bool

@@ -1,3 +1,3 @@
 pub mod Share
 pub mod ShareLaws
-pub mod Requirements
+pub mod Shareable

@@ -18,7 +18,7 @@ use Rattle.lists.specs.Pairs.{place}
 use Rattle.lists.specs.PairsLaws.{place-in}
 use Rattle.energy.specs.Limits.{mostReading, mostCapacity, mostConsumers}
 use Rattle.sharing.specs.Share.{part, shared}
-use Rattle.sharing.specs.Requirements.{Shareable}
+use Rattle.sharing.specs.Shareable.{Shareable}
 
 module _ (C : ℕ) (a : ℕ → ℕ) (K : ℕ) where
   -- what the first c consumers get together

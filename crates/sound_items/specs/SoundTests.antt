@@ -14,7 +14,7 @@ use Rattle.lists.specs.Tests.{all, all-rows, all-same, all-plus, within, within
 use Rattle.lists.specs.Pairs.{place, cell}
 use Rattle.lists.specs.PairsLaws.{cell-in}
 use Rattle.energy.specs.Limits.{mostGenerators, mostConsumers, mostRate, mostCycle, mostUnitBlocks, mostMonthBlocks}
-use Rattle.delivery_rules.specs.Plan.{lowerCapacity, scheduled}
+use Rattle.record.specs.Plan.{lowerCapacity, scheduled}
 use Rattle.record.specs.Stored.{generatorAt, consumerAt, planOf, figures}
 use Rattle.record.specs.Sound.{countsSound, agreedSound, pairSound, generatorSound, consumerSound, sound}
 use Rattle.record.specs.declared.Record.{Record}
@@ -25,8 +25,8 @@ use Rattle.record.specs.declared.Generators.{Generators}
 use Rattle.record.specs.declared.Consumers.{Consumers}
 use Rattle.record.specs.declared.GeneratorTerms.{GeneratorTerms}
 use Rattle.record.specs.declared.ConsumerTerms.{ConsumerTerms}
-use Rattle.sound_totals.specs.Capped.{RowTotal}
-use Rattle.sound_totals.specs.CappedLaws.{capped-total}
+use Rattle.sound_items.specs.Capped.{RowTotal}
+use Rattle.sound_items.specs.CappedLaws.{capped-total}
 
 -- ---- the tests, each of one place
 

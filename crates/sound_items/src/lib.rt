@@ -1,9 +1,15 @@
-// The tests of soundness at one place of what is agreed and scheduled, and of the counts. Tests are joined by & and |, which do not branch.
+// The tests of soundness at one place: of what is agreed and scheduled, of the counts, of a generator's and a consumer's totals. Every number of
+// the record is arbitrary, so a term is capped before it is added; tests are joined by & and |, which do not branch.
 ghost use mathlib.Core.Path.{_≡_};
 ghost use Rattle.lists.specs.Tests.{within};
-ghost use Rattle.record.specs.Sound.{agreedSound, pairSound};
+ghost use Rattle.record.specs.Sound.{agreedSound, pairSound, generatorSound, consumerSound};
 ghost use Rattle.sound_items.specs.SoundTests.{countsTest};
+ghost use Prim.Native.Nat.{_≤_};
+ghost use Rattle.energy.specs.Limits.{mostUnitBlocks};
+ghost use Rattle.sound_items.specs.Capped.{Clipped};
+use record::ConsumerTerms;
 use record::Counts;
+use record::GeneratorTerms;
 use record::Terms;
 
 fn in_range(low: u64, high: u64, n: u64) -> bool
@@ -43,4 +49,54 @@ pub fn pair_sound(inside: bool, link: u64, loss: u64, kw: u64, rank: u64) -> boo
         & ((link == 1) | (kw == 0))
         & (lists::only_if(inside, 1) <= rank)
         & (rank <= lists::only_if(inside, record::MOST_RANK))
+}
+
+// larger than any sound figure, and 16 of these can be added
+const CAP: u64 = 1_000_000_000_000_000_000;
+
+pub fn capped(x: u64) -> u64
+    ensures { λ r. ⌜ Clipped x r ⌝ }
+{
+    if x < CAP { x } else { CAP }
+}
+
+// beyond the agreement every total is 0
+pub fn generator_sound(blocks: u64, inside: bool, x: GeneratorTerms) -> bool
+    requires { ⌜ blocks ≤ mostUnitBlocks ⌝ }
+    ensures { λ r. ⌜ r ≡ generatorSound blocks inside x ⌝ }
+{
+    if inside {
+        let most = energy::MOST_READING * blocks;
+        let split = capped(x.unaccounted)
+            + capped(x.lost)
+            + capped(x.setoff)
+            + capped(x.inadvertent)
+            + capped(x.charge)
+            + capped(x.drawn)
+            + capped(x.lapsed)
+            + capped(x.bank)
+            + capped(x.pending);
+        (x.injected <= most) & (x.injected == split)
+    } else {
+        let given = x.injected | x.unaccounted | x.lost | x.setoff | x.inadvertent;
+        let banked = x.charge | x.drawn | x.lapsed | x.bank | x.pending;
+        (given | banked) == 0
+    }
+}
+
+pub fn consumer_sound(blocks: u64, inside: bool, x: ConsumerTerms) -> bool
+    requires { ⌜ blocks ≤ mostUnitBlocks ⌝ }
+    ensures { λ r. ⌜ r ≡ consumerSound blocks inside x ⌝ }
+{
+    if inside {
+        let most = energy::MOST_READING * blocks;
+        let split = capped(x.setoff)
+            + capped(x.shortfall)
+            + capped(x.drawn)
+            + capped(x.supplied)
+            + capped(x.outstanding);
+        (x.metered <= most) & (x.metered == split)
+    } else {
+        (x.metered | x.setoff | x.shortfall | x.drawn | x.supplied | x.outstanding) == 0
+    }
 }

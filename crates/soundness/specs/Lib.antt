@@ -1,2 +1,2 @@
-pub mod Held
-pub mod HeldLaws
+pub mod PairHeld
+pub mod PlacesHeldLaws

@@ -1,6 +1,5 @@
 // The test of soundness on the record's bytes, each number read where it stands; crates sound_items and sound_totals test what was read.
 // Tests are joined by & and |, which do not branch.
-// A function with a `requires` is called by this repository's crates only, and they meet it.
 ghost use mathlib.Core.Path.{_≡_};
 ghost use mathlib.Core.Bool.{true, false};
 ghost use Prim.Native.Nat.{_+_, _*_, _<_, _≤_};
@@ -10,11 +9,11 @@ ghost use Rattle.lists.specs.Tests.{all};
 ghost use Rattle.energy.specs.Limits.{mostGenerators, mostConsumers, mostUnitBlocks};
 ghost use Rattle.record.specs.Stored.{figures};
 ghost use Rattle.record.specs.Sound.{limit, sound};
-ghost use Rattle.sound_totals.specs.Capped.{RowTotal};
+ghost use Rattle.sound_items.specs.Capped.{RowTotal};
 ghost use Rattle.sound_items.specs.SoundTests.{agreedTest, pairTest, generatorRead, generatorTest, consumerRead, consumerTest};
-ghost use Rattle.layout_rules.specs.OnBytes.{recordIn, bookIn};
-ghost use Rattle.layout_rules.specs.Head.{HeadRead};
-ghost use Rattle.soundness.specs.Held.{pairHeld};
+ghost use Rattle.record_layout.specs.OnBytes.{recordIn, bookIn};
+ghost use Rattle.record_layout.specs.RecordHead.{HeadRead};
+ghost use Rattle.soundness.specs.PairHeld.{pairHeld};
 ghost use Rattle.record_places.specs.RecordSize.{recordBytes};
 use record::ConsumerTerms;
 use record::Counts;
@@ -31,7 +30,7 @@ fn row_total(s: &[u8], g: usize, n: usize) -> u64
     let mut c: usize = 0;
     while c < n {
         total = total
-            + sound_totals::capped(in_place::number_at(s, record_places::KW + (g * 16 + c)));
+            + sound_items::capped(record_numbers::number_at(s, record_places::KW + (g * 16 + c)));
         c += 1;
     }
     total
@@ -53,9 +52,9 @@ fn agreed_at(s: &[u8], g: usize, n: usize, m: usize) -> bool
     let k = record_places::AGREED + g * 3;
     sound_items::agreed_sound(
         g < n,
-        in_place::number_at(s, k),
-        in_place::number_at(s, k + 1),
-        in_place::number_at(s, k + 2),
+        record_numbers::number_at(s, k),
+        record_numbers::number_at(s, k + 1),
+        record_numbers::number_at(s, k + 2),
         total,
     )
 }
@@ -80,10 +79,10 @@ fn pair_within(s: &[u8], k: usize) -> bool
 {
     sound_items::pair_sound(
         true,
-        in_place::number_at(s, record_places::LINK + k),
-        in_place::number_at(s, record_places::LOSS + k),
-        in_place::number_at(s, record_places::KW + k),
-        in_place::number_at(s, record_places::RANK + k),
+        record_numbers::number_at(s, record_places::LINK + k),
+        record_numbers::number_at(s, record_places::LOSS + k),
+        record_numbers::number_at(s, record_places::KW + k),
+        record_numbers::number_at(s, record_places::RANK + k),
     )
 }
 
@@ -97,10 +96,10 @@ fn beyond_sound(s: &[u8], from: usize, n: usize) -> bool
     while i < n {
         let k = from + i;
         bits = bits
-            | in_place::number_at(s, record_places::LINK + k)
-            | in_place::number_at(s, record_places::LOSS + k)
-            | in_place::number_at(s, record_places::KW + k)
-            | in_place::number_at(s, record_places::RANK + k);
+            | record_numbers::number_at(s, record_places::LINK + k)
+            | record_numbers::number_at(s, record_places::LOSS + k)
+            | record_numbers::number_at(s, record_places::KW + k)
+            | record_numbers::number_at(s, record_places::RANK + k);
         i += 1;
     }
     bits == 0
@@ -140,16 +139,16 @@ fn generator_terms(s: &[u8], g: usize) -> GeneratorTerms
 {
     let k = record_places::INJECTED + g;
     GeneratorTerms {
-        injected: in_place::number_at(s, k),
-        unaccounted: in_place::number_at(s, k + 8),
-        lost: in_place::number_at(s, k + 16),
-        setoff: in_place::number_at(s, k + 24),
-        inadvertent: in_place::number_at(s, k + 32),
-        charge: in_place::number_at(s, k + 40),
-        drawn: in_place::number_at(s, k + 48),
-        lapsed: in_place::number_at(s, k + 56),
-        bank: in_place::number_at(s, k + 64),
-        pending: in_place::number_at(s, k + 72),
+        injected: record_numbers::number_at(s, k),
+        unaccounted: record_numbers::number_at(s, k + 8),
+        lost: record_numbers::number_at(s, k + 16),
+        setoff: record_numbers::number_at(s, k + 24),
+        inadvertent: record_numbers::number_at(s, k + 32),
+        charge: record_numbers::number_at(s, k + 40),
+        drawn: record_numbers::number_at(s, k + 48),
+        lapsed: record_numbers::number_at(s, k + 56),
+        bank: record_numbers::number_at(s, k + 64),
+        pending: record_numbers::number_at(s, k + 72),
     }
 }
 
@@ -160,7 +159,7 @@ fn generators_sound(s: &[u8], n: usize, blocks: u64) -> bool
     let mut ok = true;
     let mut g: usize = 0;
     while g < 8 {
-        ok = ok & sound_totals::generator_sound(blocks, g < n, generator_terms(s, g));
+        ok = ok & sound_items::generator_sound(blocks, g < n, generator_terms(s, g));
         g += 1;
     }
     ok
@@ -172,12 +171,12 @@ fn consumer_terms(s: &[u8], c: usize) -> ConsumerTerms
 {
     let k = record_places::METERED + c;
     ConsumerTerms {
-        metered: in_place::number_at(s, k),
-        setoff: in_place::number_at(s, k + 16),
-        shortfall: in_place::number_at(s, k + 32),
-        drawn: in_place::number_at(s, k + 48),
-        supplied: in_place::number_at(s, k + 64),
-        outstanding: in_place::number_at(s, k + 80),
+        metered: record_numbers::number_at(s, k),
+        setoff: record_numbers::number_at(s, k + 16),
+        shortfall: record_numbers::number_at(s, k + 32),
+        drawn: record_numbers::number_at(s, k + 48),
+        supplied: record_numbers::number_at(s, k + 64),
+        outstanding: record_numbers::number_at(s, k + 80),
     }
 }
 
@@ -188,7 +187,7 @@ fn consumers_sound(s: &[u8], m: usize, blocks: u64) -> bool
     let mut ok = true;
     let mut c: usize = 0;
     while c < 16 {
-        ok = ok & sound_totals::consumer_sound(blocks, c < m, consumer_terms(s, c));
+        ok = ok & sound_items::consumer_sound(blocks, c < m, consumer_terms(s, c));
         c += 1;
     }
     ok
@@ -217,6 +216,6 @@ pub fn is_sound_record(r: Record) -> bool
     ensures { λ b. ⌜ b ≡ sound (figures r) ⌝ }
 {
     let mut bytes = [0u8; record_places::RECORD_BYTES];
-    storing::store(r, &mut bytes);
+    record_bytes::storing::store(r, &mut bytes);
     is_sound(&bytes, r.terms, r.counts)
 }

@@ -1,9 +1,9 @@
 pub mod Table
-pub mod Cases
+pub mod TableCases
 pub mod TableLaws
-pub mod Parts
-pub mod Scanning
-pub mod Loops
-pub mod Reading
-pub mod Accepting
+pub mod ReaderParts
+pub mod TableScanning
+pub mod ReaderLoops
+pub mod ReaderMeets
+pub mod TableAccepting
 pub mod ReadMeetsLaws

@@ -12,7 +12,7 @@ use lib.Seq.{take-append-seam, drop-append-seam, getD-take, take-append-le, drop
 use Rattle.lists.specs.Choice.{if_then_else_}
 use Rattle.lists.specs.PairsLaws.{cell-index}
 use Rattle.table.specs.Table.{inRange, values, readNumber, readAnswer, fromStart, readOutput, ReadMeets}
-use Rattle.table.specs.Accepting.{accepted, IsTable, accepts-only}
+use Rattle.table.specs.TableAccepting.{accepted, IsTable, accepts-only}
 use Rattle.table.specs.declared.Read.the-variants.{Lines, Refused}
 
 -- What an answer of k lines says: the text is the table of k lines of g + c values, the values stand in the first k * (g + c)

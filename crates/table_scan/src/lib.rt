@@ -1,5 +1,4 @@
 // The reader's steps over the value lines, one byte after the other.
-// Called by this repository's crates only: what a function requires, its callers meet.
 ghost use mathlib.Core.Path.{_≡_};
 ghost use Prim.Native.Nat.{_<_};
 ghost use Rattle.table_scan.specs.Values.{isDigit};

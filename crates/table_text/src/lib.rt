@@ -1,5 +1,4 @@
 // How a readings table is written: decimal values, separators and the names line, laid as bytes into a buffer.
-// Called by this repository's crates only: what a function requires, its callers meet.
 ghost use mathlib.Core.Path.{_≡_};
 ghost use Prim.Native.Nat.{_+_, _*_, _<_, _≤_};
 ghost use lib.ListN.{length};

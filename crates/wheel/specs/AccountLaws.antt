@@ -7,11 +7,11 @@ use Rattle.record.specs.Book.{Book}
 use Rattle.record.specs.Stored.{figures, generatorAt}
 use Rattle.record.specs.declared.Answer.{Answer}
 use Rattle.agreement_rules.specs.Opening.{opened}
-use Rattle.unit.specs.AgreementA.{agreementA}
-use Rattle.report_rules.specs.Display.{calls, callNumber, lastBook, refusedText, equationText, accountText}
-use Rattle.display.specs.Printing.{Shows}
-use Rattle.month.specs.Carried.{Carried}
-use Rattle.display.specs.declared.Printed.{Printed}
+use Rattle.book.specs.AgreementA.{agreementA}
+use Rattle.wheel_rules.specs.Display.{calls, callNumber, lastBook, refusedText, equationText, accountText}
+use Rattle.wheel_print.specs.Printing.{Shows}
+use Rattle.wheel_month.specs.Carried.{Carried}
+use Rattle.wheel_print.specs.declared.Printed.{Printed}
 
 module _ (vs : List ℕ) {a : Answer} (k : Carried (opened agreementA) (calls vs) a) where
   number-shown : a .number ≡ callNumber vs

@@ -6,10 +6,10 @@ use borrow.Author.Tests.{eq-eqb, ne-eqb}
 use lib.ListN.{take}
 use Rattle.table.specs.declared.Read.{Read}
 use Rattle.table.specs.declared.Read.the-variants.{Lines, Refused}
-use Rattle.report_rules.specs.Display.{tableNumber, accountText, refusedText, display}
-use Rattle.table_input.specs.Input.{InputRead}
-use Rattle.display.specs.Printing.{Shows}
-use Rattle.display.specs.declared.Printed.{Printed}
+use Rattle.wheel_rules.specs.Display.{tableNumber, accountText, refusedText, display}
+use Rattle.wheel_input.specs.Input.{InputRead}
+use Rattle.wheel_print.specs.Printing.{Shows}
+use Rattle.wheel_print.specs.declared.Printed.{Printed}
 
 module _ (text last : List ℕ) (r : Read) where
   pub shows-refused : {p : Printed} (n : ℕ) → r ≡ Refused n → InputRead text r last → Shows p (refusedText n) → Shows p (display text)

@@ -7,7 +7,7 @@ ghost use Rattle.record_places.specs.RecordSize.{recordBytes};
 
 const RECORD_BYTES: usize = record_places::RECORD_BYTES;
 
-// Each array below has a place more than the largest agreement takes: see `host::read_input` and `host::room`.
+// Each array below has a place more than the largest agreement takes: see `wheeling_lists::read_input` and `wheeling_lists::room`.
 
 // A block whose inputs are read: its output is made as numbers, and written where it is accepted.
 fn block_on_inputs(bytes: &mut [u8], entry: &[u32], exit: &[u32], output: &mut [u8]) -> u32
@@ -15,9 +15,9 @@ fn block_on_inputs(bytes: &mut [u8], entry: &[u32], exit: &[u32], output: &mut [
     ensures { λ r. ⌜ ByRule (blockRule (now (entry .entry)) (now (exit .entry)) (length (numbersIn 8 (now (output .entry))))) (now (bytes .entry)) (now (output .entry)) r (now (bytes .exit)) (now (output .exit)) ⌝ }
 {
     let mut out = [0u64; 537];
-    let n = host::room(output, 537);
+    let n = wheeling_lists::room(output, 537);
     let number = block::block_on(bytes, entry, exit, &mut out[..n]);
-    host::give(number, &out, n, output)
+    wheeling_lists::give(number, &out, n, output)
 }
 
 #[no_mangle]
@@ -35,9 +35,9 @@ pub extern "C" fn wheeling_open(
 {
     if record.len() == RECORD_BYTES {
         let mut agreed = [0u32; 25];
-        let n = host::read_input(generator_list, &mut agreed);
+        let n = wheeling_lists::read_input(generator_list, &mut agreed);
         let mut pairs = [0u32; 257];
-        let m = host::read_input(pair_list, &mut pairs);
+        let m = wheeling_lists::read_input(pair_list, &mut pairs);
         return opening::opening_on(
             generators,
             consumers,
@@ -58,9 +58,9 @@ pub extern "C" fn wheeling_schedule(record: &mut [u8], kw_list: &[u8], rank_list
 {
     if record.len() == RECORD_BYTES {
         let mut kw = [0u32; 129];
-        let n = host::read_input(kw_list, &mut kw);
+        let n = wheeling_lists::read_input(kw_list, &mut kw);
         let mut ranks = [0u32; 129];
-        let m = host::read_input(rank_list, &mut ranks);
+        let m = wheeling_lists::read_input(rank_list, &mut ranks);
         return schedule::schedule_on(record, &kw[..n], &ranks[..m]);
     }
     1
@@ -77,9 +77,9 @@ pub extern "C" fn wheeling_block(
 {
     if record.len() == RECORD_BYTES {
         let mut entry = [0u32; 9];
-        let n = host::read_input(entry_list, &mut entry);
+        let n = wheeling_lists::read_input(entry_list, &mut entry);
         let mut exit = [0u32; 17];
-        let m = host::read_input(exit_list, &mut exit);
+        let m = wheeling_lists::read_input(exit_list, &mut exit);
         return block_on_inputs(record, &entry[..n], &exit[..m], output);
     }
     1
@@ -91,9 +91,9 @@ pub extern "C" fn wheeling_close(record: &mut [u8], output: &mut [u8]) -> u32
 {
     if record.len() == RECORD_BYTES {
         let mut out = [0u64; 185];
-        let n = host::room(output, 185);
+        let n = wheeling_lists::room(output, 185);
         let number = closing::close_on(record, &mut out[..n]);
-        return host::give(number, &out, n, output);
+        return wheeling_lists::give(number, &out, n, output);
     }
     1
 }

@@ -1,4 +1,4 @@
 pub mod Wheeling
-pub mod Reading
-pub mod ReadingLaws
+pub mod BytesRead
+pub mod BytesReadLaws
 pub mod WheelingLaws

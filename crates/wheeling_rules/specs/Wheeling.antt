@@ -8,10 +8,10 @@ use lib.ListN.{length}
 use Rattle.lists.specs.Choice.{if_then_else_}
 use Rattle.lists.specs.Tables.{table}
 use Rattle.codec.specs.Bytes.{decode}
-use Rattle.record.specs.Words.{words}
+use Rattle.record.specs.RecordWords.{words}
 use Rattle.record.specs.Stored.{stored}
 use Rattle.record.specs.Called.{Rule, numberOn}
-use Rattle.layout_rules.specs.OnBytes.{recordIn, bytesAfter, bookIn}
+use Rattle.record_layout.specs.OnBytes.{recordIn, bytesAfter, bookIn}
 use Rattle.agreement_rules.specs.Opening.{Opening, asked}
 use Rattle.agreement_rules.specs.OpenedOn.{OpenedOn}
 use Rattle.agreement_rules.specs.Schedule.{scheduleRule}

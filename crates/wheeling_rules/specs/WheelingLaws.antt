@@ -8,7 +8,7 @@ use native.Mathlib.Omega.{arith}
 use native.Mathlib.Nat.{mul-le-mul}
 use lib.ListN.{length, take, drop}
 use Rattle.lists.specs.Choice.{if_then_else_}
-use Rattle.record.specs.Words.{words}
+use Rattle.record.specs.RecordWords.{words}
 use Rattle.record.specs.Stored.{figures, stored}
 use Rattle.record.specs.Sound.{sound}
 use Rattle.record.specs.SoundLaws.{Facts}
@@ -24,10 +24,10 @@ use Rattle.block_rules.specs.Block.{blockLength, blockRefusal, blockRule}
 use Rattle.block_rules.specs.BlockLaws.{block-sized}
 use Rattle.closing_rules.specs.Closing.{closingLength, closingRefusal, closingRule}
 use Rattle.closing_rules.specs.ClosingLaws.{closing-sized}
-use Rattle.layout_rules.specs.OnBytes.{recordIn, bytesAfter, CalledOn, bookIn}
+use Rattle.record_layout.specs.OnBytes.{recordIn, bytesAfter, CalledOn, bookIn}
 use Rattle.wheeling_rules.specs.Wheeling.{numbersIn, ByRule, OnBytes, openingIn, ByteOpened, ByteScheduled, ByteBlocked, ByteClosed}
-use Rattle.wheeling_rules.specs.ReadingLaws.{room-fits, room-alike, left-there, after-same, no-bytes}
-use Rattle.wheeling_rules.specs.Reading.{AlikeSize, Alike, Room, Written}
+use Rattle.wheeling_rules.specs.BytesReadLaws.{room-fits, room-alike, left-there, after-same, no-bytes}
+use Rattle.wheeling_rules.specs.BytesRead.{AlikeSize, Alike, Room, Written}
 use Rattle.record_places.specs.RecordSize.{recordBytes}
 
 -- ---- a call does not tell lists apart that are too long for it

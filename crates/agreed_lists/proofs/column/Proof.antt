@@ -5,7 +5,7 @@ use mathlib.Core.Path.{sym}
 use lib.ListN.{getD}
 use borrow.Author.Needs.{needs}
 use Rattle.lists.specs.PairsLaws.{cell-in, cell-out}
-use Rattle.agreement_rules.specs.ReadingLaws.{Reading, read-start, read-step, read-done}
+use Rattle.agreement_rules.specs.AgreedReadingLaws.{Reading, read-start, read-step, read-done}
 use Rattle.agreed_lists.proofs.column.Statement.{statement}
 use Rattle.agreed_lists.proofs.column.Tie as tie
 

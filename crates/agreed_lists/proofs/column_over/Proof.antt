@@ -6,7 +6,7 @@ use borrow.Author.Needs.{needs}
 use Rattle.lists.specs.Pairs.{cell}
 use Rattle.lists.specs.PairsLaws.{cell-in}
 use Rattle.lists.specs.Tests.{Looking, look-start, look-step, look-done}
-use Rattle.agreement_rules.specs.Refusing.{columnOver}
+use Rattle.agreement_rules.specs.AgreedRefusals.{columnOver}
 use Rattle.agreed_lists.proofs.column_over.Statement.{statement}
 use Rattle.agreed_lists.proofs.column_over.Tie as tie
 

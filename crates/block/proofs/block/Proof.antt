@@ -1,7 +1,7 @@
 -- `block::block` meets its contract: the call on the record's bytes is the call on the record.
 use borrow.Author.Needs.{needs}
-use Rattle.layout_rules.specs.OnBytes.{recordIn}
-use Rattle.layout_rules.specs.OnBytesLaws.{on-struct}
+use Rattle.record_layout.specs.OnBytes.{recordIn}
+use Rattle.record_layout.specs.OnBytesLaws.{on-struct}
 use Rattle.block_rules.specs.BlockLaws.{block-keeps}
 use Rattle.block.proofs.block.Statement.{statement}
 use Rattle.block.proofs.block.Tie as tie

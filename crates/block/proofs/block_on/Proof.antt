@@ -3,10 +3,10 @@ use mathlib.Core.Path.{_≡_, sym, _∙_}
 use lib.ListN.{length}
 use borrow.Author.Needs.{needs}
 use Rattle.record.specs.Called.{numberOn}
-use Rattle.layout_rules.specs.Head.{HeadRead}
+use Rattle.record_layout.specs.RecordHead.{HeadRead}
 use Rattle.block_rules.specs.Block.{blockRule}
-use Rattle.block.specs.Ready.{ready, ranked, exits, sized, delivered-sized, settled, block-accepted, block-refused}
-use Rattle.layout_rules.specs.OnBytes.{recordIn}
+use Rattle.block.specs.BlockReady.{ready, ranked, exits, sized, delivered-sized, settled, block-accepted, block-refused}
+use Rattle.record_layout.specs.OnBytes.{recordIn}
 use Rattle.block.proofs.block_on.Statement.{statement}
 use Rattle.block.proofs.block_on.Tie as tie
 

@@ -6,15 +6,15 @@ use native.Mathlib.Omega.{arith}
 use borrow.Author.Needs.{needs}
 use lib.ListN.{getD}
 use Rattle.lists.specs.PairsLaws.{place-in}
-use Rattle.delivery_rules.specs.Plan.{Plan}
-use Rattle.delivery_rules.specs.Delivery.{counted}
-use Rattle.delivery_rules.specs.DeliveryLaws.{counted-le}
-use Rattle.layout_rules.specs.OnBytes.{planIn}
-use Rattle.block_delivery.specs.Lent.{entriesIn}
-use Rattle.block_delivery.specs.LentLaws.{kind-at}
-use Rattle.block_delivery.specs.Rows.{RowOf}
-use Rattle.block_delivery.specs.RowLaws.{count-ready, unaccounted-here, parts-here, pair-ready}
-use Rattle.block_delivery.specs.Filling.{generator-more}
+use Rattle.record.specs.Plan.{Plan}
+use Rattle.block_rules.specs.Delivery.{counted}
+use Rattle.block_rules.specs.DeliveryLaws.{counted-le}
+use Rattle.record_layout.specs.OnBytes.{planIn}
+use Rattle.block_delivery.specs.DeliveryLent.{entriesIn}
+use Rattle.block_delivery.specs.DeliveryLentLaws.{kind-at}
+use Rattle.block_delivery.specs.DeliveryRows.{RowOf}
+use Rattle.block_delivery.specs.DeliveryRowLaws.{count-ready, unaccounted-here, parts-here, pair-ready}
+use Rattle.block_delivery.specs.DeliveryFilling.{generator-more}
 use Rattle.block_delivery.proofs.deliver_one.Statement.{statement}
 use Rattle.block_delivery.proofs.deliver_one.Tie as tie
 

@@ -3,11 +3,11 @@ use Prim.Native.Nat.{ℕ, _+_, _-_, _*_, _≤_, _<_}
 use mathlib.Core.Path.{_≡_, sym, _∙_}
 use native.Mathlib.Omega.{arith}
 use lib.ListN.{length}
-use Rattle.layout_rules.specs.OnBytes.{planIn}
-use Rattle.block_delivery.specs.LentLaws.{loss-at}
-use Rattle.block_delivery.specs.Rows.{RowOf}
-use Rattle.block_delivery.specs.RowLaws.{pair-done}
-use Rattle.block_delivery.specs.Filling.{Filled, row-start, row-done, pair-more, place-low}
+use Rattle.record_layout.specs.OnBytes.{planIn}
+use Rattle.block_delivery.specs.DeliveryLentLaws.{loss-at}
+use Rattle.block_delivery.specs.DeliveryRows.{RowOf}
+use Rattle.block_delivery.specs.DeliveryRowLaws.{pair-done}
+use Rattle.block_delivery.specs.DeliveryFilling.{Filled, row-start, row-done, pair-more, place-low}
 use borrow.Author.Needs.{needs}
 use Rattle.block_delivery.proofs.deliver_row.Statement.{statement}
 use Rattle.block_delivery.proofs.deliver_row.Tie as tie

@@ -1,6 +1,6 @@
 -- `block_refusal::any_over` meets its contract: the search finds a reading over the limit where there is one.
 use mathlib.Core.Path.{ap}
-use Rattle.block_rules.specs.Refusals.{overLimit}
+use Rattle.block_rules.specs.BlockRefusals.{overLimit}
 use Rattle.energy.specs.Limits.{mostReading}
 use Rattle.lists.specs.Tests.{Looking, look-start, look-step, look-done}
 use lib.ListN.{length, getD}

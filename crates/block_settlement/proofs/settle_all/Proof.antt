@@ -5,9 +5,9 @@ use native.Mathlib.Omega.{arith}
 use borrow.Author.Needs.{needs}
 use lib.ListN.{length}
 use Rattle.lists.specs.PairsLaws.{place-in}
-use Rattle.delivery_rules.specs.DeliveredIn.{DeliveredIn}
-use Rattle.layout_rules.specs.OnBytes.{planIn}
-use Rattle.block_settlement.specs.Bytes.{exitsIn}
+use Rattle.block_rules.specs.DeliveredIn.{DeliveredIn}
+use Rattle.record_layout.specs.OnBytes.{planIn}
+use Rattle.block_settlement.specs.SettlementLent.{exitsIn}
 use Rattle.block_settlement.specs.SettledTo.{SettledTo}
 use Rattle.block_settlement.specs.SettledLaws.{settled-start, settled-done}
 use Rattle.block_settlement.proofs.settle_all.Statement.{statement}

@@ -2,7 +2,7 @@
 use mathlib.Core.Path.{refl}
 use borrow.Author.Needs.{needs}
 use native.Mathlib.Omega.{arith}
-use Rattle.turns.specs.TurnsLaws.{turns-held}
+use Rattle.record_order.specs.TurnsLaws.{turns-held}
 use Rattle.block_settlement.specs.SettledLaws.{consumer-settled}
 use Rattle.block_settlement.proofs.settle_one.Statement.{statement}
 use Rattle.block_settlement.proofs.settle_one.Tie as tie

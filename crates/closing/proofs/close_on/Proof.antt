@@ -3,10 +3,10 @@ use mathlib.Core.Path.{_≡_, sym, _∙_}
 use lib.ListN.{length}
 use borrow.Author.Needs.{needs}
 use Rattle.record.specs.Called.{numberOn}
-use Rattle.layout_rules.specs.Head.{HeadRead}
+use Rattle.record_layout.specs.RecordHead.{HeadRead}
 use Rattle.closing_rules.specs.Closing.{closingRule}
-use Rattle.closing.specs.Ready.{listed, closing-accepted, closing-refused}
-use Rattle.layout_rules.specs.OnBytes.{recordIn}
+use Rattle.closing.specs.ClosingReady.{listed, closing-accepted, closing-refused}
+use Rattle.record_layout.specs.OnBytes.{recordIn}
 use Rattle.closing.proofs.close_on.Statement.{statement}
 use Rattle.closing.proofs.close_on.Tie as tie
 

@@ -5,7 +5,7 @@ use borrow.Author.Needs.{needs}
 use Rattle.record.specs.CalledLaws.{number-unsound, terms-few}
 use Rattle.record.specs.Sound.{sound}
 use Rattle.closing_rules.specs.ClosingRefusals.{record-refusal}
-use Rattle.layout_rules.specs.OnBytes.{bookIn}
+use Rattle.record_layout.specs.OnBytes.{bookIn}
 use Rattle.closing.proofs.refusal_on.Statement.{statement}
 use Rattle.closing.proofs.refusal_on.Tie as tie
 

@@ -5,11 +5,11 @@ use native.Mathlib.Omega.{arith}
 use borrow.Author.Needs.{needs}
 use Rattle.lists.specs.PairsLaws.{place-in}
 use Rattle.lists.specs.Pairs.{place}
-use Rattle.delivery_rules.specs.Plan.{suppliers}
-use Rattle.layout_rules.specs.OnBytes.{planIn}
+use Rattle.record.specs.Plan.{suppliers}
+use Rattle.record_layout.specs.OnBytes.{planIn}
 use Rattle.bank.specs.DrawingSteps.{Drawn, drawing-start, drawing-step, drawing-done}
-use Rattle.turns.specs.TurnsLaws.{turns-held}
-use Rattle.closing_lists.specs.Reading.{suppliers-are, suppliers-few}
+use Rattle.record_order.specs.TurnsLaws.{turns-held}
+use Rattle.closing_lists.specs.ClosingReading.{suppliers-are, suppliers-few}
 use Rattle.closing_lists.proofs.draw_all.Statement.{statement}
 use Rattle.closing_lists.proofs.draw_all.Tie as tie
 

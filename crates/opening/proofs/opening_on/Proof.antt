@@ -3,7 +3,7 @@ use mathlib.Core.Path.{sym, _∙_}
 use borrow.Author.Needs.{needs}
 use borrow.Author.Tests.{ne-eqb}
 use Rattle.agreement_rules.specs.OpeningLaws.{accepted-permitted}
-use Rattle.layout_rules.specs.OnBytes.{bytesAfter}
+use Rattle.record_layout.specs.OnBytes.{bytesAfter}
 use Rattle.opening.proofs.opening_on.Statement.{statement}
 use Rattle.opening.proofs.opening_on.Tie as tie
 

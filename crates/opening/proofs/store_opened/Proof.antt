@@ -2,10 +2,10 @@
 use mathlib.Core.Path.{ap, sym, _∙_}
 use borrow.Author.Needs.{needs}
 use Rattle.codec.specs.Bytes.{encode}
-use Rattle.record.specs.Words.{words}
+use Rattle.record.specs.RecordWords.{words}
 use Rattle.record.specs.declared.Record.{Record}
-use Rattle.layout_rules.specs.Layout.{laid-then, laid-all, words-parts}
-use Rattle.agreement_rules.specs.StoringLaws.{opened-parts}
+use Rattle.record_layout.specs.Layout.{laid-then, laid-all, words-parts}
+use Rattle.agreement_rules.specs.AgreedPartsLaws.{opened-parts}
 use Rattle.opening.proofs.store_opened.Statement.{statement}
 use Rattle.opening.proofs.store_opened.Tie as tie
 

@@ -7,9 +7,9 @@ use lib.Dec.{eqb, ltb}
 use borrow.Author.Needs.{needs}
 use Rattle.lists.specs.Pairs.{cell}
 use Rattle.lists.specs.Tests.{some, Looking, look-start, look-step, look-done}
-use Rattle.agreement_rules.specs.ReadingLaws.{first-row-at}
-use Rattle.agreement_rules.specs.Refusing.{offLink}
-use Rattle.agreement_rules.specs.RefusingLaws.{row-off}
+use Rattle.agreement_rules.specs.AgreedReadingLaws.{first-row-at}
+use Rattle.agreement_rules.specs.AgreedRefusals.{offLink}
+use Rattle.agreement_rules.specs.AgreedRefusalsLaws.{row-off}
 use Rattle.schedule_refusal.proofs.off_link.Statement.{statement}
 use Rattle.schedule_refusal.proofs.off_link.Tie as tie
 

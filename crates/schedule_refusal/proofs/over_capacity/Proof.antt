@@ -3,9 +3,9 @@ use Prim.Native.Nat.{_-_}
 use native.Mathlib.Omega.{arith}
 use borrow.Author.Needs.{needs}
 use Rattle.lists.specs.Tests.{Looking, look-start, look-step, look-done}
-use Rattle.agreement_rules.specs.ReadingLaws.{first-row-at}
-use Rattle.agreement_rules.specs.Refusing.{overAt, overCapacity}
-use Rattle.agreement_rules.specs.RefusingLaws.{row-over}
+use Rattle.agreement_rules.specs.AgreedReadingLaws.{first-row-at}
+use Rattle.agreement_rules.specs.AgreedRefusals.{overAt, overCapacity}
+use Rattle.agreement_rules.specs.AgreedRefusalsLaws.{row-over}
 use Rattle.schedule_refusal.proofs.over_capacity.Statement.{statement}
 use Rattle.schedule_refusal.proofs.over_capacity.Tie as tie
 

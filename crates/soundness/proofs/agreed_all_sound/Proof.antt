@@ -5,7 +5,7 @@ use borrow.Author.Needs.{needs}
 use Rattle.lists.specs.Tests.{Testing, test-start, test-step, test-done}
 use Rattle.record.specs.Sound.{limit}
 use Rattle.sound_items.specs.SoundTests.{agreedTest}
-use Rattle.layout_rules.specs.OnBytes.{recordIn}
+use Rattle.record_layout.specs.OnBytes.{recordIn}
 use Rattle.soundness.proofs.agreed_all_sound.Statement.{statement}
 use Rattle.soundness.proofs.agreed_all_sound.Tie as tie
 

@@ -5,8 +5,8 @@ use lib.Dec.{eqb}
 use borrow.Author.Needs.{needs}
 use Rattle.lists.specs.Tests.{Testing, test-start, test-step, test-done}
 use Rattle.sound_items.specs.SoundTests.{beyond-next}
-use Rattle.soundness.specs.Held.{pairHeld}
-use Rattle.soundness.specs.HeldLaws.{pair-held}
+use Rattle.soundness.specs.PairHeld.{pairHeld}
+use Rattle.soundness.specs.PlacesHeldLaws.{pair-held}
 use Rattle.soundness.proofs.beyond_sound.Statement.{statement}
 use Rattle.soundness.proofs.beyond_sound.Tie as tie
 

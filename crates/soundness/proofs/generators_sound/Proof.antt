@@ -4,7 +4,7 @@ use mathlib.Core.Path.{_∙_}
 use borrow.Author.Needs.{needs}
 use Rattle.lists.specs.Tests.{Testing, test-start, test-step, test-done}
 use Rattle.sound_items.specs.SoundTests.{generatorTest, generator-here}
-use Rattle.layout_rules.specs.OnBytes.{recordIn}
+use Rattle.record_layout.specs.OnBytes.{recordIn}
 use Rattle.soundness.proofs.generators_sound.Statement.{statement}
 use Rattle.soundness.proofs.generators_sound.Tie as tie
 

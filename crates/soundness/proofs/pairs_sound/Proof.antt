@@ -4,7 +4,7 @@ use lib.Dec.{ltb}
 use borrow.Author.Needs.{needs}
 use Rattle.lists.specs.Tests.{all, Testing, test-start, test-step, test-done}
 use Rattle.sound_items.specs.SoundTests.{pairs-here}
-use Rattle.soundness.specs.Held.{pairHeld}
+use Rattle.soundness.specs.PairHeld.{pairHeld}
 use Rattle.soundness.proofs.pairs_sound.Statement.{statement}
 use Rattle.soundness.proofs.pairs_sound.Tie as tie
 

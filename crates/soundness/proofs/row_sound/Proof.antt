@@ -4,7 +4,7 @@ use mathlib.Core.Bool.{true}
 use borrow.Author.Needs.{needs}
 use Rattle.lists.specs.Tests.{Testing, test-start, test-step, test-done}
 use Rattle.sound_items.specs.SoundTests.{row-here}
-use Rattle.soundness.specs.Held.{pairHeld}
+use Rattle.soundness.specs.PairHeld.{pairHeld}
 use Rattle.soundness.proofs.row_sound.Statement.{statement}
 use Rattle.soundness.proofs.row_sound.Tie as tie
 

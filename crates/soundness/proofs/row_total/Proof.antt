@@ -4,9 +4,9 @@ use mathlib.Core.Path.{sym, _∙_}
 use borrow.Author.Needs.{needs}
 use Rattle.lists.specs.Pairs.{cell}
 use Rattle.lists.specs.PairsLaws.{cell-in}
-use Rattle.sound_totals.specs.CappedLaws.{Adding, add-start, add-step, add-done}
-use Rattle.layout_rules.specs.OnBytes.{recordIn}
-use Rattle.soundness.specs.HeldLaws.{kw-held}
+use Rattle.sound_items.specs.CappedLaws.{Adding, add-start, add-step, add-done}
+use Rattle.record_layout.specs.OnBytes.{recordIn}
+use Rattle.soundness.specs.PlacesHeldLaws.{kw-held}
 use Rattle.soundness.proofs.row_total.Statement.{statement}
 use Rattle.soundness.proofs.row_total.Tie as tie
 

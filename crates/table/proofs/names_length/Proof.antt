@@ -5,9 +5,9 @@ use native.Mathlib.Omega.{arith}
 use borrow.Author.Needs.{needs}
 use Rattle.table_text.specs.LayingLaws.{put-start, put-length}
 use Rattle.table_text.specs.TableTextLaws.{line-short}
-use Rattle.table.specs.Parts.{namesLength}
+use Rattle.table.specs.ReaderParts.{namesLength}
 use Rattle.table.specs.TableLaws.{ranged}
-use Rattle.table.specs.Reading.{starts-is}
+use Rattle.table.specs.ReaderMeets.{starts-is}
 use Rattle.table.proofs.names_length.Statement.{statement}
 use Rattle.table.proofs.names_length.Tie as tie
 

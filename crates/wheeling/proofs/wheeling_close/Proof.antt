@@ -3,7 +3,7 @@ use borrow.Author.Needs.{needs}
 use native.Mathlib.Omega.{arith}
 use mathlib.Core.Path.{sym}
 use lib.ListN.{length-take}
-use Rattle.wheeling_rules.specs.ReadingLaws.{left-size, left-room}
+use Rattle.wheeling_rules.specs.BytesReadLaws.{left-size, left-room}
 use Rattle.wheeling_rules.specs.WheelingLaws.{closing-fits, closing-on-bytes, on-other}
 use Rattle.wheeling.proofs.wheeling_close.Statement.{statement}
 use Rattle.wheeling.proofs.wheeling_close.Tie as tie

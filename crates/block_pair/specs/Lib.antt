@@ -1,2 +1,0 @@
-pub mod OnePair
-pub mod OnePairLaws

@@ -1,0 +1,149 @@
+-- Document 01, "Bench cases": P1 to P10, every figure that the paper gives, as one theorem on the rules. Assumes nothing.
+use Prim.Native.Nat.{ℕ, _+_}
+use mathlib.Core.List.{List, [], _∷_, _++_}
+use mathlib.Core.Path.{_≡_, refl}
+use Rattle.lists.specs.Sums.{sum}
+use Rattle.lists.specs.Tables.{table}
+use Rattle.lists.specs.Tests.{all, some, within}
+use Rattle.lists.specs.Pairs.{place, cell, pairs, joined}
+use Rattle.lists.specs.Refusals.{firstOf}
+use Rattle.energy.specs.Energy.{portionUp, lossOn}
+use Rattle.sharing.specs.Share.{part}
+use Rattle.order_rules.specs.Order.{span, insert, sort, only, ahead, inOrder}
+use Rattle.order_rules.specs.Settle.{lower, settle, given, kept, unmet}
+use Rattle.record.specs.Plan.{deemed, scheduled, order, suppliers}
+use Rattle.block_rules.specs.Delivery.{countedOf, counted, unaccounted, partOf, lossOf, delivered, atExit}
+use Rattle.block_rules.specs.Settlement.{setOff, afterSetOff, underdrawn, shortfall, remainder, blockLists, blockOutput}
+use Rattle.record.specs.Book.{noInjection, noConsumption}
+use Rattle.agreement_rules.specs.Opening.{Opening, kindOf, installedOf, contractedOf, linkOf, rateOfLoss, sizesFit, termsFit, openingRefusal, opened}
+use Rattle.agreement_rules.specs.Schedule.{newKw, newRank, scheduleRefusal, afterSchedule, scheduleRule}
+use Rattle.block_rules.specs.Block.{generatorAfterBlock, consumerAfterBlock, afterBlock, blockLength, entryOf, exitOf, blockNumber, blockRefusal, blockRule}
+use Rattle.closing_rules.specs.Drawing.{stockAt, drawnAt, missingAt}
+use Rattle.closing_rules.specs.Closing.{takenUp, charge, credited, banks, drawn, supplied, cycleEnds, lapses, goneAfter, bankBeforeLapse, lapsed, bankAfter, generatorAfterClosing, consumerAfterClosing, afterClosing, closingLists, closingOutput, closingLength, closingNumber, closingRefusal, closingRule}
+use Rattle.book.specs.AgreementA.{agreementA, scheduleA}
+use Rattle.book.specs.BookCalls.{Call, schedule, block, closing, ruleOf, next, bookAfter, BookAnswer, bookAnswers}
+
+-- an accepted call with this output
+abbrev accepted : List ℕ → BookAnswer
+accepted xs = record { number = 0; output = xs }
+
+-- the readings table of agreement A: its first line, and its second
+abbrev firstLine : Call
+firstLine = block (70_001 ∷ []) (20_000 ∷ 60_000 ∷ []) 11
+
+abbrev secondLine : Call
+secondLine = block (30_000 ∷ []) (5_000 ∷ 0 ∷ []) 11
+
+abbrev zeroBlock : Call
+zeroBlock = block (0 ∷ []) (0 ∷ 0 ∷ []) 11
+
+-- n generators, all linked to one consumer
+unfoldable pub oneConsumer : ℕ → List ℕ → List ℕ → Opening
+oneConsumer n generators losses = record { G = n; C = 1; rate = 1_000; cycle = 2; gone = 0; generators = generators; pairs = table n (λ g. 1) ++ losses }
+
+-- P4 and P5: kind 0, one consumer, 40 kW, loss 1,000
+unfoldable pub oneScheduled : Opening
+oneScheduled = oneConsumer 1 (0 ∷ 40 ∷ 40 ∷ []) (1_000 ∷ [])
+
+-- P6 and P7: two of kind 0, loss 0
+unfoldable pub twoScheduled : Opening
+twoScheduled = oneConsumer 2 (0 ∷ 40 ∷ 40 ∷ 0 ∷ 40 ∷ 40 ∷ []) (0 ∷ 0 ∷ [])
+
+-- P8 and P9: wind
+unfoldable pub wind : ℕ → Opening
+wind loss = oneConsumer 1 (1 ∷ 40 ∷ 40 ∷ []) (loss ∷ [])
+
+-- P10: document 003, slot 50
+unfoldable pub slot50 : Opening
+slot50 = oneConsumer 3 (0 ∷ 20_000 ∷ 20_000 ∷ 0 ∷ 44_000 ∷ 44_000 ∷ 3 ∷ 320_000 ∷ 320_000 ∷ []) (0 ∷ 0 ∷ 1_000 ∷ [])
+
+-- A block's output is loss, set off, underdrawn and shortfall by pair, unaccounted by generator, remainder by consumer; a
+-- closing's is drawn by pair, charge, lapsed and bank by generator, open and supplied by consumer.
+pub record BenchCases : Type 0 where
+  -- no number applies to any of these openings
+  pub all-opened :
+      openingRefusal agreementA + openingRefusal oneScheduled + openingRefusal twoScheduled + openingRefusal (wind 0) + openingRefusal (wind 1) + openingRefusal slot50 ≡ 0
+  -- P1: parts 23,333 and 46,668, losses 2,334 each, remainders 0 and 15,666
+  pub P1-parts : table 2 (partOf (bookAfter (opened agreementA) (scheduleA ∷ []) .plan) 0 70_001) ≡ 23_333 ∷ 46_668 ∷ []
+  pub P1 :
+      bookAnswers (opened agreementA) (scheduleA ∷ firstLine ∷ []) ≡
+      accepted [] ∷ accepted (2_334 ∷ 2_334 ∷ 20_000 ∷ 44_334 ∷ 999 ∷ 0 ∷ 0 ∷ 0 ∷ 0 ∷ 0 ∷ 15_666 ∷ []) ∷ []
+  -- P2: pending 23,999; charge 2,400, drawn 15,666, bank 5,933; and the printed line
+  pub P2-pending : bookAfter (opened agreementA) (scheduleA ∷ firstLine ∷ secondLine ∷ []) .gen 0 .pending ≡ 23_999
+  -- P3: a zero block and a second closing: 5,933 lapse
+  pub P2-P3 :
+      bookAnswers (bookAfter (opened agreementA) (scheduleA ∷ firstLine ∷ secondLine ∷ [])) (closing 9 ∷ zeroBlock ∷ closing 9 ∷ []) ≡
+      accepted (0 ∷ 15_666 ∷ 2_400 ∷ 0 ∷ 5_933 ∷ 0 ∷ 15_666 ∷ 0 ∷ 0 ∷ []) ∷
+      accepted (0 ∷ 0 ∷ 0 ∷ 0 ∷ 0 ∷ 0 ∷ 0 ∷ 0 ∷ 0 ∷ 0 ∷ 0 ∷ []) ∷
+      accepted (0 ∷ 0 ∷ 0 ∷ 5_933 ∷ 0 ∷ 0 ∷ 0 ∷ 0 ∷ 0 ∷ []) ∷
+      []
+  pub printed :
+      bookAfter (opened agreementA) (scheduleA ∷ firstLine ∷ secondLine ∷ closing 9 ∷ []) .gen 0 ≡
+      record {
+        injected = 100_001;
+        unaccounted = 0;
+        lost = 6_668;
+        setoff = 69_334;
+        inadvertent = 0;
+        charge = 2_400;
+        drawn = 15_666;
+        lapsed = 0;
+        bank = 5_933;
+        pending = 0;
+      }
+  -- P4: E 7,000, R 10,000: set off 6,300, shortfall 2,700, remainder 1,000
+  pub P4 :
+      bookAnswers (opened oneScheduled) (schedule (40 ∷ []) (1 ∷ []) ∷ block (7_000 ∷ []) (10_000 ∷ []) 6 ∷ []) ≡
+      accepted [] ∷ accepted (700 ∷ 6_300 ∷ 0 ∷ 2_700 ∷ 0 ∷ 1_000 ∷ []) ∷ []
+  -- P5: E 12,000, R 4,000: unaccounted 2,000, inadvertent 5,000
+  pub P5 :
+      bookAnswers (opened oneScheduled) (schedule (40 ∷ []) (1 ∷ []) ∷ block (12_000 ∷ []) (4_000 ∷ []) 6 ∷ []) ≡
+      accepted [] ∷ accepted (1_000 ∷ 4_000 ∷ 5_000 ∷ 0 ∷ 2_000 ∷ 0 ∷ []) ∷ []
+  pub P5-inadvertent : bookAfter (opened oneScheduled) (schedule (40 ∷ []) (1 ∷ []) ∷ block (12_000 ∷ []) (4_000 ∷ []) 6 ∷ []) .gen 0 .inadvertent ≡ 5_000
+  -- P6: 40 kW and E 10,000 each, R 12,000, ranks 2, 1: set off 2,000 and 10,000
+  pub P6 :
+      bookAnswers (opened twoScheduled) (schedule (40 ∷ 40 ∷ []) (2 ∷ 1 ∷ []) ∷ block (10_000 ∷ 10_000 ∷ []) (12_000 ∷ []) 11 ∷ []) ≡
+      accepted [] ∷ accepted (0 ∷ 0 ∷ 2_000 ∷ 10_000 ∷ 8_000 ∷ 0 ∷ 0 ∷ 0 ∷ 0 ∷ 0 ∷ 0 ∷ []) ∷ []
+  -- P7: ranks 1, 1: 10,000 and 2,000
+  pub P7 :
+      bookAnswers (opened twoScheduled) (schedule (40 ∷ 40 ∷ []) (1 ∷ 1 ∷ []) ∷ block (10_000 ∷ 10_000 ∷ []) (12_000 ∷ []) 11 ∷ []) ≡
+      accepted [] ∷ accepted (0 ∷ 0 ∷ 10_000 ∷ 2_000 ∷ 0 ∷ 8_000 ∷ 0 ∷ 0 ∷ 0 ∷ 0 ∷ 0 ∷ []) ∷ []
+  -- P8: wind with no kW, E 500: unaccounted 500
+  pub P8 :
+      bookAnswers (opened (wind 0)) (schedule (0 ∷ []) (1 ∷ []) ∷ block (500 ∷ []) (0 ∷ []) 6 ∷ []) ≡
+      accepted [] ∷ accepted (0 ∷ 0 ∷ 0 ∷ 0 ∷ 500 ∷ 0 ∷ []) ∷ []
+  -- P9: p = 1, loss 1: d = 0
+  pub P9 :
+      bookAnswers (opened (wind 1)) (schedule (1 ∷ []) (1 ∷ []) ∷ block (1 ∷ []) (0 ∷ []) 6 ∷ []) ≡
+      accepted [] ∷ accepted (1 ∷ 0 ∷ 0 ∷ 0 ∷ 0 ∷ 0 ∷ []) ∷ []
+  pub P9-part : partOf (bookAfter (opened (wind 1)) (schedule (1 ∷ []) (1 ∷ []) ∷ []) .plan) 0 1 0 ≡ 1
+  pub P9-delivered : delivered (bookAfter (opened (wind 1)) (schedule (1 ∷ []) (1 ∷ []) ∷ []) .plan) 0 1 0 ≡ 0
+  -- P10: remainder 38,000,000
+  pub P10 :
+      bookAnswers (opened slot50)
+      (schedule (20_000 ∷ 44_000 ∷ 320_000 ∷ []) (1 ∷ 2 ∷ 3 ∷ []) ∷ block (5_000_000 ∷ 11_000_000 ∷ 80_000_000 ∷ []) (126_000_000 ∷ []) 16 ∷ []) ≡
+      accepted [] ∷
+      accepted (0 ∷ 0 ∷ 8_000_000 ∷ 5_000_000 ∷ 11_000_000 ∷ 72_000_000 ∷ 0 ∷ 0 ∷ 0 ∷ 0 ∷ 0 ∷ 0 ∷ 0 ∷ 0 ∷ 0 ∷ 38_000_000 ∷ []) ∷
+      []
+
+pub bench-cases : BenchCases
+unfolding agreementA oneConsumer oneScheduled twoScheduled wind slot50 sum table all some within place cell pairs joined firstOf portionUp lossOn part span insert sort only ahead inOrder lower settle given kept unmet deemed scheduled order suppliers countedOf counted unaccounted partOf lossOf delivered atExit setOff afterSetOff underdrawn shortfall remainder blockLists blockOutput noInjection noConsumption kindOf installedOf contractedOf linkOf rateOfLoss sizesFit termsFit openingRefusal opened newKw newRank scheduleRefusal afterSchedule scheduleRule generatorAfterBlock consumerAfterBlock afterBlock blockLength entryOf exitOf blockNumber blockRefusal blockRule takenUp charge credited stockAt drawnAt missingAt banks drawn supplied cycleEnds lapses goneAfter bankBeforeLapse lapsed bankAfter generatorAfterClosing consumerAfterClosing afterClosing closingLists closingOutput closingLength closingNumber closingRefusal closingRule ruleOf next bookAfter bookAnswers
+bench-cases =
+    record {
+      all-opened = refl;
+      P1-parts = refl;
+      P1 = refl;
+      P2-pending = refl;
+      P2-P3 = refl;
+      printed = refl;
+      P4 = refl;
+      P5 = refl;
+      P5-inadvertent = refl;
+      P6 = refl;
+      P7 = refl;
+      P8 = refl;
+      P9 = refl;
+      P9-part = refl;
+      P9-delivered = refl;
+      P10 = refl;
+    }

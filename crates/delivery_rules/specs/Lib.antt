@@ -1,6 +1,0 @@
-pub mod Plan
-pub mod Delivery
-pub mod DeliveryLaws
-pub mod Deliverable
-pub mod Orderable
-pub mod DeliveredIn

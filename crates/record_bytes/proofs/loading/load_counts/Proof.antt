@@ -1,0 +1,35 @@
+-- `record_bytes::loading::load_counts` meets its contract: each figure is read at its place. Assumes nothing.
+use borrow.Author.Needs.{needs}
+use Rattle.record_layout.specs.Layout.{counts-at}
+use Rattle.record_places.specs.RecordSize.{wordsIn}
+use Rattle.record_bytes.proofs.loading.load_counts.Statement.{statement}
+use Rattle.record_bytes.proofs.loading.load_counts.Tie as tie
+
+slice-aggregate-load-run : tie.Need-slice-aggregate-load-run
+slice-aggregate-load-run c = search needs
+
+load-run-requires : tie.Need-load-run-requires
+load-run-requires c κs = search needs
+
+array-read-t8 : tie.Need-array-read-t8
+array-read-t8 c = search needs
+
+array-read-t11 : tie.Need-array-read-t11
+array-read-t11 c = search needs
+
+array-read-t14 : tie.Need-array-read-t14
+array-read-t14 c = search needs
+
+returns : tie.Need-returns
+returns c = cc (counts-at (wordsIn (c .before .before .before .before .args .s .now)))
+
+pub load-counts-spec : {M : Type 1} → statement M
+load-counts-spec =
+    tie.close
+    (tie.spec
+    slice-aggregate-load-run
+    load-run-requires
+    array-read-t8
+    array-read-t11
+    array-read-t14
+    returns)

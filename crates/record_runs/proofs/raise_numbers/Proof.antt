@@ -1,0 +1,73 @@
+-- `record_runs::raise_numbers` meets its contract: the numbers passed are raised. Assumes nothing.
+use Prim.Native.Nat.{_+_, _-_, _≤_}
+use mathlib.Core.Path.{_∙_, refl}
+use native.Mathlib.Omega.{arith}
+use lib.ListN.{getD}
+use borrow.Author.Needs.{needs}
+use Rattle.record_layout.specs.NumbersRaised.{from}
+use Rattle.record_runs.specs.Raise.{Raised}
+use Rattle.record_runs.specs.RaiseLaws.{none-raised, one-more, all-raised, next-low}
+use Rattle.record_runs.proofs.raise_numbers.Statement.{statement}
+use Rattle.record_runs.proofs.raise_numbers.Tie as tie
+
+abbrev Inv-loop : tie.InvT-loop
+Inv-loop s₀ at xs first n i₀ s i = (i ≤ n) × Raised (from at) i (λ j. getD xs (first + j) 0) s₀ s
+
+abbrev μ-loop : tie.MeasureT-loop
+μ-loop s₀ at xs first n i₀ s i = n - i
+
+loop-holds : tie.Need-loop-holds Inv-loop μ-loop
+loop-holds c = (omega arith, none-raised)
+
+add-add-at : tie.Need-add-add-at Inv-loop μ-loop
+add-add-at c = search needs
+
+add-add-at-2 : tie.Need-add-add-at-2 Inv-loop μ-loop
+add-add-at-2 c = search needs
+
+mul-add-at : tie.Need-mul-add-at Inv-loop μ-loop
+mul-add-at c = search needs
+
+shared-slice-read-add-at : tie.Need-shared-slice-read-add-at Inv-loop μ-loop
+shared-slice-read-add-at c = search needs
+
+add-at-requires : tie.Need-add-at-requires Inv-loop μ-loop
+add-at-requires c κs = let l = c .before .before .before .loop in
+    let start = c .before .before .before .before .before .before in
+    let able = start .pre .0 in
+    (l .inv .1 .size ∙ able .size, (omega (arith, able .placed), omega (arith, next-low able (l .inv .1), start .pre .1 .1 .at (start .args .first + l .i))))
+
+add-i : tie.Need-add-i Inv-loop μ-loop
+add-i c = search needs
+
+loop-less : tie.Need-loop-less Inv-loop μ-loop
+loop-less c = search needs
+
+loop-again : tie.Need-loop-again Inv-loop μ-loop
+loop-again c = let call = c .before .before in
+    let l = call .before .before .before .before .loop in
+    (omega arith, one-more (l .inv .1) refl (call .add-at .kept .0) (call .add-at .ensures))
+
+same-length : tie.Need-same-length Inv-loop μ-loop
+same-length c = search needs
+
+returns : tie.Need-returns Inv-loop μ-loop
+returns c = all-raised (c .before .loop .inv .1) (omega arith)
+
+pub raise-numbers-spec : {M : Type 1} → statement M
+raise-numbers-spec =
+    tie.close
+    (tie.spec
+    Inv-loop
+    μ-loop
+    loop-holds
+    add-add-at
+    add-add-at-2
+    mul-add-at
+    shared-slice-read-add-at
+    add-at-requires
+    add-i
+    loop-less
+    loop-again
+    same-length
+    returns)

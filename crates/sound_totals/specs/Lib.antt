@@ -1,3 +1,0 @@
-pub mod Capped
-pub mod CappedLaws
-pub mod BeyondLaws

@@ -1,6 +1,0 @@
-pub mod Calls
-pub mod AgreementA
-pub mod Trace
-pub mod Demand3
-pub mod Demand3Proof
-pub mod BenchCases

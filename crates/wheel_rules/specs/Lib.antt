@@ -1,0 +1,3 @@
+pub mod PrintedWords
+pub mod Display
+pub mod PrintedCases
