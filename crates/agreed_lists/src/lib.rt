@@ -5,8 +5,8 @@ ghost use lib.ListN.{length, getD, drop};
 ghost use Rattle.lists.specs.Sums.{sum};
 ghost use Rattle.lists.specs.Tables.{table};
 ghost use Rattle.lists.specs.Pairs.{cell, pairs};
-ghost use Rattle.agreement_rules.specs.AgreedReading.{Threes, RowAt, RowsAt, rowPut};
-ghost use Rattle.agreement_rules.specs.AgreedRefusals.{outside, columnOver};
+ghost use Rattle.agreement_rules.specs.Laws.AgreedReading.{Threes, RowAt, RowsAt, rowPut};
+ghost use Rattle.agreement_rules.specs.Laws.AgreedRefusals.{outside, columnOver};
 
 // ---- tests of the lists of a call; they are joined by & and |, which do not branch
 

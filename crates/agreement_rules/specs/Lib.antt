@@ -1,11 +1,4 @@
 pub mod Opening
 pub mod Schedule
-pub mod OpeningLaws
-pub mod ScheduleLaws
-pub mod AgreedReading
-pub mod AgreedReadingLaws
-pub mod AgreedRefusals
-pub mod AgreedRefusalsLaws
-pub mod AgreedParts
-pub mod AgreedPartsLaws
 pub mod OpenedOn
+pub mod Laws

@@ -1,3 +1,1 @@
-pub mod BankSteps
-pub mod BankLaws
-pub mod DrawingSteps
+pub mod Laws

@@ -5,11 +5,11 @@ ghost use lib.Dec.{eqb};
 ghost use Rattle.lists.specs.Tables.{table};
 ghost use Rattle.lists.specs.Pairs.{place};
 ghost use Rattle.order_rules.specs.Order.{only};
-ghost use Rattle.order.specs.KeptOrder.{turnsOf, Held};
-ghost use Rattle.order_rules.specs.Among.{among};
+ghost use Rattle.order.specs.Laws.KeptOrder.{turnsOf, Held};
+ghost use Rattle.order_rules.specs.Laws.Among.{among};
 ghost use Rattle.energy.specs.Limits.{mostCycle};
 ghost use Rattle.closing_rules.specs.Closing.{cycleEnds};
-ghost use Rattle.bank.specs.BankSteps.{Creditable, creditOf, drawOf, lapseOf};
+ghost use Rattle.bank.specs.Laws.BankSteps.{Creditable, creditOf, drawOf, lapseOf};
 use energy::Wh;
 
 pub struct Bank {

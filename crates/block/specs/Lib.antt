@@ -1,1 +1,1 @@
-pub mod BlockReady
+pub mod Laws

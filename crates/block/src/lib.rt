@@ -3,7 +3,7 @@ ghost use mathlib.Core.Path.{_≡_};
 ghost use lib.ListN.{length};
 ghost use Rattle.record.specs.Called.{numberOn};
 ghost use Rattle.record_layout.specs.OnBytes.{CalledOn, recordIn};
-ghost use Rattle.record_layout.specs.RecordHead.{HeadRead};
+ghost use Rattle.record_layout.specs.Laws.RecordHead.{HeadRead};
 ghost use Rattle.block_rules.specs.Block.{blockRule, Blocked};
 ghost use Rattle.record_places.specs.RecordSize.{recordBytes};
 use record::Answer;

@@ -1,5 +1,1 @@
-pub mod DeliveryLent
-pub mod DeliveryLentLaws
-pub mod DeliveryRows
-pub mod DeliveryRowLaws
-pub mod DeliveryFilling
+pub mod Laws

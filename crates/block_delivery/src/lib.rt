@@ -7,11 +7,11 @@ ghost use lib.ListN.{length, getD};
 ghost use Rattle.lists.specs.Tables.{table};
 ghost use Rattle.energy.specs.Limits.{mostCapacity};
 ghost use Rattle.block_rules.specs.Delivery.{counted};
-ghost use Rattle.block_rules.specs.DeliveredIn.{DeliveredIn};
+ghost use Rattle.block_rules.specs.Laws.DeliveredIn.{DeliveredIn};
 ghost use Rattle.record_layout.specs.OnBytes.{planIn};
-ghost use Rattle.block_delivery.specs.DeliveryLent.{entriesIn, Ready};
-ghost use Rattle.block_delivery.specs.DeliveryRows.{CountReady, RowReady, RowOf};
-ghost use Rattle.block_delivery.specs.DeliveryFilling.{Filled};
+ghost use Rattle.block_delivery.specs.Laws.DeliveryLent.{entriesIn, Ready};
+ghost use Rattle.block_delivery.specs.Laws.DeliveryRows.{CountReady, RowReady, RowOf};
+ghost use Rattle.block_delivery.specs.Laws.DeliveryFilling.{Filled};
 ghost use Rattle.record_places.specs.RecordSize.{recordBytes};
 
 // The kW of generator g.

@@ -1,3 +1,1 @@
-pub mod CountingLaws
-pub mod OnePair
-pub mod OnePairLaws
+pub mod Laws

@@ -7,8 +7,8 @@ ghost use Rattle.energy.specs.Limits.{mostCapacity};
 ghost use Rattle.block_rules.specs.Delivery.{countedOf};
 ghost use lib.ListN.{getD};
 ghost use Rattle.energy.specs.Energy.{afterLoss};
-ghost use Rattle.energy.specs.Portionable.{Portionable};
-ghost use Rattle.block_figures.specs.OnePair.{gapOf, PairReady, PairDone};
+ghost use Rattle.energy.specs.Laws.Portionable.{Portionable};
+ghost use Rattle.block_figures.specs.Laws.OnePair.{gapOf, PairReady, PairDone};
 use energy::Kw;
 use energy::Wh;
 

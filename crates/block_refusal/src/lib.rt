@@ -2,7 +2,7 @@
 ghost use mathlib.Core.Path.{_≡_};
 ghost use Prim.Native.Nat.{_≤_};
 ghost use Rattle.block_rules.specs.Block.{blockNumber};
-ghost use Rattle.block_rules.specs.BlockRefusals.{overLimit};
+ghost use Rattle.block_rules.specs.Laws.BlockRefusals.{overLimit};
 use record::Counts;
 
 // Whether a reading is over the limit.

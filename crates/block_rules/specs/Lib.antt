@@ -1,15 +1,4 @@
 pub mod Block
-pub mod BlockLaws
-pub mod BlockRefusals
-pub mod BlockRoom
-pub mod BlockSettleable
-pub mod BlockAccepted
 pub mod Delivery
-pub mod DeliveryLaws
-pub mod Deliverable
-pub mod DeliveredIn
 pub mod Settlement
-pub mod SettlementLaws
-pub mod Settleable
-pub mod BlockBeyond
-pub mod OutputPlaces
+pub mod Laws

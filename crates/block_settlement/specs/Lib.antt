@@ -1,6 +1,1 @@
-pub mod ConsumerPut
-pub mod ConsumerPutLaws
-pub mod SettlementLent
-pub mod Settles
-pub mod SettledTo
-pub mod SettledLaws
+pub mod Laws

@@ -2,12 +2,12 @@
 ghost use mathlib.Core.Path.{_≡_};
 ghost use Prim.Native.Nat.{ℕ, _+_, _*_, _<_, _≤_};
 ghost use lib.ListN.{length};
-ghost use Rattle.block_rules.specs.DeliveredIn.{DeliveredIn};
+ghost use Rattle.block_rules.specs.Laws.DeliveredIn.{DeliveredIn};
 ghost use Rattle.block_rules.specs.Settlement.{blockOutput};
 ghost use Rattle.record_layout.specs.OnBytes.{planIn};
-ghost use Rattle.block_settlement.specs.SettlementLent.{exitsIn, Ranked};
-ghost use Rattle.block_settlement.specs.SettledTo.{SettledTo};
-ghost use Rattle.block_settlement.specs.ConsumerPut.{ConsumerPut};
+ghost use Rattle.block_settlement.specs.Laws.SettlementLent.{exitsIn, Ranked};
+ghost use Rattle.block_settlement.specs.Laws.SettledTo.{SettledTo};
+ghost use Rattle.block_settlement.specs.Laws.ConsumerPut.{ConsumerPut};
 
 // Rules 5 to 7 for consumer c, whose exit reading is `read`.
 fn settle_one(s: &[u8], n: usize, m: usize, c: usize, read: u64, out: &mut [u64])

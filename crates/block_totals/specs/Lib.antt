@@ -1,3 +1,1 @@
-pub mod BlockTotals
-pub mod BlockTotalsLaws
-pub mod BlockAfterLaws
+pub mod Laws

@@ -3,17 +3,17 @@ ghost use mathlib.Core.Path.{_≡_};
 ghost use Prim.Native.Nat.{_+_, _*_, _≤_, _<_};
 ghost use lib.ListN.{length};
 ghost use Rattle.energy.specs.Limits.{mostFigure};
-ghost use Rattle.output_lists.specs.Bounds.{Moderate};
+ghost use Rattle.output_lists.specs.Laws.Bounds.{Moderate};
 ghost use Rattle.codec.specs.Bytes.{encode};
 ghost use Rattle.record.specs.Stored.{stored};
 ghost use Rattle.record.specs.RecordWords.{words};
 ghost use Rattle.block_rules.specs.Block.{entryOf, exitOf, afterBlock};
 ghost use Rattle.record_layout.specs.OnBytes.{bookIn, recordIn};
-ghost use Rattle.record_layout.specs.NumbersRaised.{from};
-ghost use Rattle.record_runs.specs.Raise.{rowSum, Raised, mostRaised, Raisable};
-ghost use Rattle.block_totals.specs.BlockTotals.{underdrawnPlace, generatorsRaised, consumersRaised, BlockLists, Settled};
+ghost use Rattle.record_layout.specs.Laws.NumbersRaised.{from};
+ghost use Rattle.record_runs.specs.Laws.Raise.{rowSum, Raised, mostRaised, Raisable};
+ghost use Rattle.block_totals.specs.Laws.BlockTotals.{underdrawnPlace, generatorsRaised, consumersRaised, BlockLists, Settled};
 ghost use Rattle.record_places.specs.RecordSize.{recordBytes, wordsIn};
-ghost use Rattle.record_places.specs.Places.{unitBlocksAt, injectedAt, inadvertentAt, meteredAt};
+ghost use Rattle.record_places.specs.Laws.Places.{unitBlocksAt, injectedAt, inadvertentAt, meteredAt};
 use record::Counts;
 
 fn underdrawn_place(s: &[u8], g: usize) -> usize

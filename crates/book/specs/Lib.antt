@@ -2,5 +2,4 @@ pub mod BookCalls
 pub mod AgreementA
 pub mod Trace
 pub mod Demand3
-pub mod Demand3Proof
-pub mod BenchCases
+pub mod Laws

@@ -1,3 +1,3 @@
 pub mod ByteTrace
 pub mod ByteDemand3
-pub mod ByteDemand3Proof
+pub mod Laws

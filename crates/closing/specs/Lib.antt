@@ -1,1 +1,1 @@
-pub mod ClosingReady
+pub mod Laws

@@ -1,5 +1,1 @@
-pub mod Drawable
-pub mod ClosingMonth
-pub mod ClosingWritten
-pub mod ClosingAccepted
-pub mod ClosingReading
+pub mod Laws

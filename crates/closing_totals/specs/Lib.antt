@@ -1,3 +1,1 @@
-pub mod ClosingTotals
-pub mod ClosingTotalsLaws
-pub mod ClosingAfterLaws
+pub mod Laws

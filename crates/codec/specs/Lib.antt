@@ -1,3 +1,2 @@
 pub mod Bytes
-pub mod BytesLaws
-pub mod BytesPut
+pub mod Laws

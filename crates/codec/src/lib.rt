@@ -5,7 +5,7 @@ ghost use Prim.Native.Nat.{_+_, _*_, _≤_};
 ghost use lib.ListN.{length, take, drop};
 ghost use lib.Seq.{sets};
 ghost use Rattle.codec.specs.Bytes.{number, bytes, encode, decode};
-ghost use Rattle.codec.specs.BytesPut.{Put};
+ghost use Rattle.codec.specs.Laws.BytesPut.{Put};
 
 // A sum of weighted bytes is what LLVM reads as one load.
 fn join4(b0: u8, b1: u8, b2: u8, b3: u8) -> u32

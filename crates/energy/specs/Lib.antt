@@ -1,4 +1,3 @@
 pub mod Limits
 pub mod Energy
-pub mod EnergyLaws
-pub mod Portionable
+pub mod Laws

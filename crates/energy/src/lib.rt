@@ -1,7 +1,7 @@
 // Capacity and energy, and the loss of a pair.
 ghost use mathlib.Core.Path.{_≡_};
 ghost use Rattle.energy.specs.Energy.{quarterHour, portionUp, lossOn};
-ghost use Rattle.energy.specs.Portionable.{Portionable};
+ghost use Rattle.energy.specs.Laws.Portionable.{Portionable};
 
 // Wh in one reading.
 pub const MOST_READING: u64 = 200_000_000;

@@ -3,5 +3,5 @@ pub mod Tables
 pub mod Sums
 pub mod Tests
 pub mod Pairs
-pub mod PairsLaws
 pub mod Refusals
+pub mod Laws

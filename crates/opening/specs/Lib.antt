@@ -1,1 +1,1 @@
-pub mod OpenedOnLaws
+pub mod Laws

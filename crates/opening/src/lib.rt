@@ -8,8 +8,8 @@ ghost use Rattle.record.specs.Book.{noInjection, noConsumption};
 ghost use Rattle.record.specs.Stored.{storedGenerators, storedConsumers, stored, zeros};
 ghost use Rattle.record.specs.RecordWords.{words};
 ghost use Rattle.agreement_rules.specs.Opening.{asked, opened, Opened, Permitted};
-ghost use Rattle.agreement_rules.specs.AgreedReading.{Threes};
-ghost use Rattle.agreement_rules.specs.AgreedParts.{agreedFrom, linksFrom, firstSchedule};
+ghost use Rattle.agreement_rules.specs.Laws.AgreedReading.{Threes};
+ghost use Rattle.agreement_rules.specs.Laws.AgreedParts.{agreedFrom, linksFrom, firstSchedule};
 ghost use Rattle.agreement_rules.specs.OpenedOn.{OpenedOn};
 ghost use Rattle.record_places.specs.RecordSize.{recordBytes};
 

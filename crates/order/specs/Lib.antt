@@ -1,3 +1,1 @@
-pub mod OrderKeys
-pub mod KeptOrder
-pub mod KeptStock
+pub mod Laws

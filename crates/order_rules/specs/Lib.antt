@@ -1,6 +1,3 @@
 pub mod Order
-pub mod Members
-pub mod OrderLaws
 pub mod Settle
-pub mod SettleLaws
-pub mod Among
+pub mod Laws

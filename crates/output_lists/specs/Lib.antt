@@ -1,9 +1,1 @@
-pub mod Bounds
-pub mod BoundsLaws
-pub mod ListPut
-pub mod ListPutLaws
-pub mod StretchesWritten
-pub mod RowsWritten
-pub mod Stretches
-pub mod Columns
-pub mod ColumnsLaws
+pub mod Laws

@@ -4,8 +4,8 @@ ghost use Prim.Native.Nat.{_+_, _*_, _<_, _≤_};
 ghost use lib.ListN.{length, getD, set};
 ghost use Rattle.lists.specs.Tables.{table};
 ghost use Rattle.lists.specs.Pairs.{cell, pairs};
-ghost use Rattle.output_lists.specs.ListPut.{Put};
-ghost use Rattle.output_lists.specs.Columns.{ColumnGot, ColumnPut, ColumnAt};
+ghost use Rattle.output_lists.specs.Laws.ListPut.{Put};
+ghost use Rattle.output_lists.specs.Laws.Columns.{ColumnGot, ColumnPut, ColumnAt};
 
 // Fills `out` with the first numbers of `xs`.
 fn write_list(out: &mut [u64], xs: &[u64])

@@ -4,7 +4,7 @@ use borrow.Author.Needs.{length-unmapped}
 use denote.Shadow.{shadow}
 use denote.RattleType.{Valss, owns}
 use denote.Struct.Declared.{shape}
-use Rattle.record.specs.Shape.{Shape}
+use Rattle.record.specs.Laws.Shape.{Shape}
 use Rattle.record.specs.declared.Record.{Record}
 use Rattle.record.proofs.Record.{the-type}
 

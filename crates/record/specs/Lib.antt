@@ -1,13 +1,7 @@
 pub mod Plan
-pub mod Orderable
-pub mod PlanLaws
 pub mod Book
 pub mod Stored
 pub mod RecordWords
 pub mod Sound
 pub mod Called
-pub mod SoundLaws
-pub mod StoredLaws
-pub mod CalledLaws
-pub mod RecordWordsLaws
-pub mod Shape
+pub mod Laws

@@ -1,7 +1,7 @@
 // Kind, installed and contracted of each generator: three lists in a record by value, 8 rows of 3 in its bytes.
 ghost use mathlib.Core.Path.{_≡_};
 ghost use Prim.Native.Nat.{_<_};
-ghost use Rattle.record_layout.specs.Layout.{agreedRun, columnOf};
+ghost use Rattle.record_layout.specs.Laws.Layout.{agreedRun, columnOf};
 
 // The lists as rows.
 pub fn rows(t: record::Agreed) -> [u64; 24]

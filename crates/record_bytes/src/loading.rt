@@ -2,7 +2,7 @@
 ghost use mathlib.Core.Path.{_≡_};
 ghost use Prim.Native.Nat.{_+_, _≤_};
 ghost use lib.ListN.{length};
-ghost use Rattle.record_layout.specs.Layout.{run};
+ghost use Rattle.record_layout.specs.Laws.Layout.{run};
 ghost use Rattle.record_places.specs.RecordSize.{recordNumbers, recordBytes, wordsIn};
 ghost use Rattle.record_layout.specs.OnBytes.{recordIn};
 

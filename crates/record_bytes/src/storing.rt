@@ -4,9 +4,9 @@ ghost use Prim.Native.Nat.{_+_, _≤_};
 ghost use lib.ListN.{length};
 ghost use Rattle.codec.specs.Bytes.{encode};
 ghost use Rattle.record.specs.RecordWords.{words};
-ghost use Rattle.record_layout.specs.Layout.{Laid, termsRun, countsRun, agreedRun, linksRun, scheduleRun, generatorsRun, consumersRun};
+ghost use Rattle.record_layout.specs.Laws.Layout.{Laid, termsRun, countsRun, agreedRun, linksRun, scheduleRun, generatorsRun, consumersRun};
 ghost use Rattle.record_places.specs.RecordSize.{recordNumbers, recordBytes};
-ghost use Rattle.record_places.specs.Places.{generatorCountAt, goneAt, agreedAt, linkAt, kwAt, injectedAt, meteredAt, totalsEnd};
+ghost use Rattle.record_places.specs.Laws.Places.{generatorCountAt, goneAt, agreedAt, linkAt, kwAt, injectedAt, meteredAt, totalsEnd};
 ghost use Rattle.record_layout.specs.OnBytes.{recordIn};
 
 // A list of the record, from place `at` on.

@@ -1,10 +1,2 @@
-pub mod Layout
-pub mod LayoutLaws
-pub mod FigurePlaces
 pub mod OnBytes
-pub mod OnBytesLaws
-pub mod RecordHead
-pub mod RecordKept
-pub mod NumbersRaised
-pub mod NumbersReplaced
-pub mod RecordColumns
+pub mod Laws

@@ -1,2 +1,1 @@
-pub mod Turns
-pub mod TurnsLaws
+pub mod Laws

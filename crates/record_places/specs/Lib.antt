@@ -1,2 +1,2 @@
 pub mod RecordSize
-pub mod Places
+pub mod Laws

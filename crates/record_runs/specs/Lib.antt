@@ -1,2 +1,1 @@
-pub mod Raise
-pub mod RaiseLaws
+pub mod Laws

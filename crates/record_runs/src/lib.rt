@@ -3,9 +3,9 @@
 ghost use mathlib.Core.Path.{_≡_};
 ghost use Prim.Native.Nat.{_+_, _*_, _≤_, _<_};
 ghost use lib.ListN.{length, getD};
-ghost use Rattle.output_lists.specs.Bounds.{Moderate};
-ghost use Rattle.record_layout.specs.NumbersRaised.{from};
-ghost use Rattle.record_runs.specs.Raise.{rowSum, columnSum, Raised, mostRaised, Raisable, Replaced, Replaceable};
+ghost use Rattle.output_lists.specs.Laws.Bounds.{Moderate};
+ghost use Rattle.record_layout.specs.Laws.NumbersRaised.{from};
+ghost use Rattle.record_runs.specs.Laws.Raise.{rowSum, columnSum, Raised, mostRaised, Raisable, Replaced, Replaceable};
 
 // The sum of row g of the rows of m numbers that start at `first`.
 pub fn row_sum(xs: &[u64], first: usize, m: usize, g: usize) -> u64

@@ -1,2 +1,1 @@
-pub mod ScheduleAccepted
-pub mod ScheduleEntered
+pub mod Laws

@@ -6,8 +6,8 @@ ghost use lib.Dec.{eqb, ltb};
 ghost use lib.ListN.{getD};
 ghost use Rattle.lists.specs.Tests.{some};
 ghost use Rattle.energy.specs.Limits.{mostGenerators, mostConsumers};
-ghost use Rattle.agreement_rules.specs.AgreedReading.{RowAt, RowsAt};
-ghost use Rattle.agreement_rules.specs.AgreedRefusals.{offLink, overCapacity, refusalOn};
+ghost use Rattle.agreement_rules.specs.Laws.AgreedReading.{RowAt, RowsAt};
+ghost use Rattle.agreement_rules.specs.Laws.AgreedRefusals.{offLink, overCapacity, refusalOn};
 
 // Whether generator g has kW for a consumer that it is not linked to; its m figures start at place `from`.
 fn row_off_link(link: &[u64; 128], g: usize, kws: &[u32], from: usize, m: usize) -> bool

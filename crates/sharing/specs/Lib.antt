@@ -1,3 +1,2 @@
 pub mod Share
-pub mod ShareLaws
-pub mod Shareable
+pub mod Laws

@@ -4,7 +4,7 @@ ghost use Rattle.lists.specs.Sums.{sum};
 ghost use Rattle.lists.specs.Tables.{table};
 ghost use Rattle.lists.specs.Pairs.{place};
 ghost use Rattle.energy.specs.Limits.{mostConsumers};
-ghost use Rattle.sharing.specs.Shareable.{Shareable};
+ghost use Rattle.sharing.specs.Laws.Shareable.{Shareable};
 ghost use Rattle.sharing.specs.Share.{part, shared};
 
 // Sixteen figures of 32 bits add up to more than 32 bits.

@@ -1,4 +1,1 @@
-pub mod SoundTests
-pub mod Capped
-pub mod CappedLaws
-pub mod TotalsBeyondLaws
+pub mod Laws

@@ -3,10 +3,10 @@
 ghost use mathlib.Core.Path.{_≡_};
 ghost use Rattle.lists.specs.Tests.{within};
 ghost use Rattle.record.specs.Sound.{agreedSound, pairSound, generatorSound, consumerSound};
-ghost use Rattle.sound_items.specs.SoundTests.{countsTest};
+ghost use Rattle.sound_items.specs.Laws.SoundTests.{countsTest};
 ghost use Prim.Native.Nat.{_≤_};
 ghost use Rattle.energy.specs.Limits.{mostUnitBlocks};
-ghost use Rattle.sound_items.specs.Capped.{Clipped};
+ghost use Rattle.sound_items.specs.Laws.Capped.{Clipped};
 use record::ConsumerTerms;
 use record::Counts;
 use record::GeneratorTerms;

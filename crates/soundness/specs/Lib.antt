@@ -1,2 +1,1 @@
-pub mod PairHeld
-pub mod PlacesHeldLaws
+pub mod Laws

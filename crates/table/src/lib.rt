@@ -4,7 +4,7 @@ ghost use mathlib.Core.Bool.{true};
 ghost use Prim.Native.Nat.{_/_, _<_};
 ghost use lib.ListN.{length, take};
 ghost use Rattle.table.specs.Table.{numbers, same, wellFormed, inRange, fromStart, ReadMeets};
-ghost use Rattle.table.specs.ReaderParts.{Writable, LinesMeet, namesLength};
+ghost use Rattle.table.specs.Laws.ReaderParts.{Writable, LinesMeet, namesLength};
 use table_scan::Progress;
 use table_text::put_names;
 use table_text::separator_after;

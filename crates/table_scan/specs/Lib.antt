@@ -1,3 +1,2 @@
 pub mod Values
-pub mod Scan
-pub mod ScanLaws
+pub mod Laws

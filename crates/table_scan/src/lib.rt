@@ -2,7 +2,7 @@
 ghost use mathlib.Core.Path.{_≡_};
 ghost use Prim.Native.Nat.{_<_};
 ghost use Rattle.table_scan.specs.Values.{isDigit};
-ghost use Rattle.table_scan.specs.Scan.{addDigit, firstByte, laterByte, nextByte, valuesEnded, wholeLines, valueSoFar};
+ghost use Rattle.table_scan.specs.Laws.Scan.{addDigit, firstByte, laterByte, nextByte, valuesEnded, wholeLines, valueSoFar};
 
 // How far the reading of one value has come: not begun, some digits, or a byte that cannot stand there.
 pub enum Progress {

@@ -1,5 +1,2 @@
 pub mod TableText
-pub mod TableTextLaws
-pub mod Laying
-pub mod LayingLaws
-pub mod Naming
+pub mod Laws

@@ -3,7 +3,7 @@ ghost use mathlib.Core.Path.{_≡_};
 ghost use Prim.Native.Nat.{_+_, _*_, _<_, _≤_};
 ghost use lib.ListN.{length};
 ghost use Rattle.table_text.specs.TableText.{decimal, separatorAfter, printed, name, namesLine};
-ghost use Rattle.table_text.specs.Laying.{Put, Room};
+ghost use Rattle.table_text.specs.Laws.Laying.{Put, Room};
 
 // The byte after place i of a line of w places, the places counted on through all lines.
 pub fn separator_after(w: usize, i: usize) -> u8

@@ -1,2 +1,1 @@
-pub mod AccountLaws
-pub mod ReportLaws
+pub mod Laws

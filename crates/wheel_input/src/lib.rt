@@ -2,7 +2,7 @@
 ghost use mathlib.Core.Path.{_≡_};
 ghost use lib.ListN.{length};
 ghost use Rattle.wheel_rules.specs.Display.{space};
-ghost use Rattle.wheel_input.specs.Input.{InputRead};
+ghost use Rattle.wheel_input.specs.Laws.Input.{InputRead};
 use table::Read;
 
 // Reads the table of agreement A. A text past 64 KiB has a malformed later line; a names line that differs comes first.

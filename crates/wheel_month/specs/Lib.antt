@@ -1,3 +1,1 @@
-pub mod Carried
-pub mod CarriedLaws
-pub mod Entering
+pub mod Laws

@@ -9,7 +9,7 @@ ghost use Rattle.agreement_rules.specs.Opening.{opened};
 ghost use Rattle.book.specs.BookCalls.{Call, bookAfter};
 ghost use Rattle.book.specs.AgreementA.{agreementA, scheduleA};
 ghost use Rattle.wheel_rules.specs.Display.{blocks, calls};
-ghost use Rattle.wheel_month.specs.Carried.{Holds, Carried, Ready, answered};
+ghost use Rattle.wheel_month.specs.Laws.Carried.{Holds, Carried, Ready, answered};
 ghost use Rattle.record_places.specs.RecordSize.{recordBytes};
 use record::Answer;
 

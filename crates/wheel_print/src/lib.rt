@@ -3,7 +3,7 @@ ghost use mathlib.Core.List.{_++_};
 ghost use Prim.Native.Nat.{_+_, _*_, _≤_};
 ghost use lib.ListN.{length};
 ghost use Rattle.table_text.specs.TableText.{printed};
-ghost use Rattle.table_text.specs.Laying.{Put, Room};
+ghost use Rattle.table_text.specs.Laws.Laying.{Put, Room};
 ghost use Rattle.record.specs.Stored.{generatorAt};
 ghost use Rattle.wheel_rules.specs.Display.{refusedText, equationText};
 ghost use Rattle.wheel_print.specs.Printing.{Shows};

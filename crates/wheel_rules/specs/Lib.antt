@@ -1,3 +1,3 @@
 pub mod PrintedWords
 pub mod Display
-pub mod PrintedCases
+pub mod Laws

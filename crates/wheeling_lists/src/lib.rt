@@ -3,7 +3,7 @@ ghost use mathlib.Core.Path.{_≡_};
 ghost use Prim.Native.Nat.{_*_, _≤_};
 ghost use lib.ListN.{length, take};
 ghost use Rattle.wheeling_rules.specs.Wheeling.{numbersIn};
-ghost use Rattle.wheeling_rules.specs.BytesRead.{Taken, Room, Written};
+ghost use Rattle.wheeling_rules.specs.Laws.BytesRead.{Taken, Room, Written};
 
 // Reads the numbers of an input into the front of `out`, and returns how many there are. Bytes that are no whole count of numbers, or
 // too many for `out`, count as all of `out`: it has more places than any agreement takes, so the call refuses them as a wrong length.

@@ -1,4 +1,2 @@
 pub mod Wheeling
-pub mod BytesRead
-pub mod BytesReadLaws
-pub mod WheelingLaws
+pub mod Laws

@@ -4,8 +4,9 @@ use mathlib.Core.Bool.{not}
 use mathlib.Core.Path.{refl}
 use lib.ListN.{getD}
 use borrow.Author.Needs.{needs}
-use Rattle.lists.specs.Tests.{within, Looking, look-start, look-step, look-done}
-use Rattle.agreement_rules.specs.AgreedRefusals.{outside}
+use Rattle.lists.specs.Tests.{within}
+use Rattle.lists.specs.Laws.TestsLaws.{Looking, look-start, look-step, look-done}
+use Rattle.agreement_rules.specs.Laws.AgreedRefusals.{outside}
 use Rattle.agreed_lists.proofs.any_outside.Statement.{statement}
 use Rattle.agreed_lists.proofs.any_outside.Tie as tie
 

@@ -4,8 +4,8 @@ use mathlib.Core.Logic.{inl}
 use mathlib.Core.Path.{sym}
 use lib.ListN.{getD}
 use borrow.Author.Needs.{needs}
-use Rattle.lists.specs.PairsLaws.{cell-in, cell-out}
-use Rattle.agreement_rules.specs.AgreedReadingLaws.{Reading, read-start, read-step, read-done}
+use Rattle.lists.specs.Laws.PairsLaws.{cell-in, cell-out}
+use Rattle.agreement_rules.specs.Laws.AgreedReadingLaws.{Reading, read-start, read-step, read-done}
 use Rattle.agreed_lists.proofs.column.Statement.{statement}
 use Rattle.agreed_lists.proofs.column.Tie as tie
 

@@ -4,9 +4,9 @@ use mathlib.Core.Path.{_∙_, sym, ap}
 use lib.Dec.{ltb}
 use borrow.Author.Needs.{needs}
 use Rattle.lists.specs.Pairs.{cell}
-use Rattle.lists.specs.PairsLaws.{cell-in}
-use Rattle.lists.specs.Tests.{Looking, look-start, look-step, look-done}
-use Rattle.agreement_rules.specs.AgreedRefusals.{columnOver}
+use Rattle.lists.specs.Laws.PairsLaws.{cell-in}
+use Rattle.lists.specs.Laws.TestsLaws.{Looking, look-start, look-step, look-done}
+use Rattle.agreement_rules.specs.Laws.AgreedRefusals.{columnOver}
 use Rattle.agreed_lists.proofs.column_over.Statement.{statement}
 use Rattle.agreed_lists.proofs.column_over.Tie as tie
 

@@ -3,7 +3,7 @@ use Prim.Native.Nat.{_-_, _+_}
 use native.Mathlib.Omega.{arith}
 use lib.ListN.{getD}
 use borrow.Author.Needs.{needs}
-use Rattle.agreement_rules.specs.AgreedReadingLaws.{Putting, put-start, put-step, put-length, put-done}
+use Rattle.agreement_rules.specs.Laws.AgreedReadingLaws.{Putting, put-start, put-step, put-length, put-done}
 use Rattle.agreed_lists.proofs.put_row.Statement.{statement}
 use Rattle.agreed_lists.proofs.put_row.Tie as tie
 

@@ -3,7 +3,7 @@ use Prim.Native.Nat.{_-_, _+_}
 use native.Mathlib.Omega.{arith}
 use lib.ListN.{getD}
 use borrow.Author.Needs.{needs}
-use Rattle.lists.specs.Sums.{Summing, sum-start, sum-step, sum-done}
+use Rattle.lists.specs.Laws.SumsLaws.{Summing, sum-start, sum-step, sum-done}
 use Rattle.agreed_lists.proofs.row_total.Statement.{statement}
 use Rattle.agreed_lists.proofs.row_total.Tie as tie
 

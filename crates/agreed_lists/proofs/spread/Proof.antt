@@ -2,7 +2,7 @@
 use Prim.Native.Nat.{_-_}
 use native.Mathlib.Omega.{arith}
 use borrow.Author.Needs.{needs}
-use Rattle.agreement_rules.specs.AgreedReadingLaws.{Spreading, spread-start, spread-step, spread-length, spread-done, row-at}
+use Rattle.agreement_rules.specs.Laws.AgreedReadingLaws.{Spreading, spread-start, spread-step, spread-length, spread-done, row-at}
 use Rattle.agreed_lists.proofs.spread.Statement.{statement}
 use Rattle.agreed_lists.proofs.spread.Tie as tie
 

@@ -3,9 +3,9 @@ use mathlib.Core.Path.{_≡_, sym, _∙_}
 use lib.ListN.{length}
 use borrow.Author.Needs.{needs}
 use Rattle.record.specs.Called.{numberOn}
-use Rattle.record_layout.specs.RecordHead.{HeadRead}
+use Rattle.record_layout.specs.Laws.RecordHead.{HeadRead}
 use Rattle.block_rules.specs.Block.{blockRule}
-use Rattle.block.specs.BlockReady.{ready, ranked, exits, sized, delivered-sized, settled, block-accepted, block-refused}
+use Rattle.block.specs.Laws.BlockReady.{ready, ranked, exits, sized, delivered-sized, settled, block-accepted, block-refused}
 use Rattle.record_layout.specs.OnBytes.{recordIn}
 use Rattle.block.proofs.block_on.Statement.{statement}
 use Rattle.block.proofs.block_on.Tie as tie

@@ -2,9 +2,9 @@
 use mathlib.Core.Bool.{true}
 use mathlib.Core.Path.{_≡_, _∙_, sym}
 use borrow.Author.Needs.{needs}
-use Rattle.record.specs.CalledLaws.{number-unsound, terms-few}
+use Rattle.record.specs.Laws.CalledLaws.{number-unsound, terms-few}
 use Rattle.record.specs.Sound.{sound}
-use Rattle.block_rules.specs.BlockRefusals.{record-refusal}
+use Rattle.block_rules.specs.Laws.BlockRefusals.{record-refusal}
 use Rattle.record_layout.specs.OnBytes.{bookIn}
 use Rattle.block.proofs.refusal_on.Statement.{statement}
 use Rattle.block.proofs.refusal_on.Tie as tie

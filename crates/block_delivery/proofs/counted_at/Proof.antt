@@ -1,8 +1,8 @@
 -- `block_delivery::counted_at` is rule 1 on the record. Assumes nothing.
 use mathlib.Core.Path.{sym, _∙_}
 use borrow.Author.Needs.{needs}
-use Rattle.block_delivery.specs.DeliveryLentLaws.{kind-at}
-use Rattle.block_delivery.specs.DeliveryRowLaws.{counted-here}
+use Rattle.block_delivery.specs.Laws.DeliveryLentLaws.{kind-at}
+use Rattle.block_delivery.specs.Laws.DeliveryRowLaws.{counted-here}
 use Rattle.block_delivery.proofs.counted_at.Statement.{statement}
 use Rattle.block_delivery.proofs.counted_at.Tie as tie
 

@@ -3,9 +3,9 @@ use Prim.Native.Nat.{_-_, _*_, _≤_}
 use native.Mathlib.Omega.{arith}
 use borrow.Author.Needs.{needs}
 use Rattle.record_layout.specs.OnBytes.{planIn}
-use Rattle.block_delivery.specs.DeliveryLent.{entriesIn}
-use Rattle.block_delivery.specs.DeliveryRowLaws.{kw-high}
-use Rattle.block_delivery.specs.DeliveryFilling.{Filled, filled-none, delivered-all}
+use Rattle.block_delivery.specs.Laws.DeliveryLent.{entriesIn}
+use Rattle.block_delivery.specs.Laws.DeliveryRowLaws.{kw-high}
+use Rattle.block_delivery.specs.Laws.DeliveryFilling.{Filled, filled-none, delivered-all}
 use Rattle.block_delivery.proofs.deliver.Statement.{statement}
 use Rattle.block_delivery.proofs.deliver.Tie as tie
 

@@ -5,16 +5,16 @@ use native.Mathlib.Nat.{mul-le-mul-right}
 use native.Mathlib.Omega.{arith}
 use borrow.Author.Needs.{needs}
 use lib.ListN.{getD}
-use Rattle.lists.specs.PairsLaws.{place-in}
+use Rattle.lists.specs.Laws.PairsLaws.{place-in}
 use Rattle.record.specs.Plan.{Plan}
 use Rattle.block_rules.specs.Delivery.{counted}
-use Rattle.block_rules.specs.DeliveryLaws.{counted-le}
+use Rattle.block_rules.specs.Laws.DeliveryLaws.{counted-le}
 use Rattle.record_layout.specs.OnBytes.{planIn}
-use Rattle.block_delivery.specs.DeliveryLent.{entriesIn}
-use Rattle.block_delivery.specs.DeliveryLentLaws.{kind-at}
-use Rattle.block_delivery.specs.DeliveryRows.{RowOf}
-use Rattle.block_delivery.specs.DeliveryRowLaws.{count-ready, unaccounted-here, parts-here, pair-ready}
-use Rattle.block_delivery.specs.DeliveryFilling.{generator-more}
+use Rattle.block_delivery.specs.Laws.DeliveryLent.{entriesIn}
+use Rattle.block_delivery.specs.Laws.DeliveryLentLaws.{kind-at}
+use Rattle.block_delivery.specs.Laws.DeliveryRows.{RowOf}
+use Rattle.block_delivery.specs.Laws.DeliveryRowLaws.{count-ready, unaccounted-here, parts-here, pair-ready}
+use Rattle.block_delivery.specs.Laws.DeliveryFilling.{generator-more}
 use Rattle.block_delivery.proofs.deliver_one.Statement.{statement}
 use Rattle.block_delivery.proofs.deliver_one.Tie as tie
 

@@ -4,10 +4,10 @@ use mathlib.Core.Path.{_≡_, sym, _∙_}
 use native.Mathlib.Omega.{arith}
 use lib.ListN.{length}
 use Rattle.record_layout.specs.OnBytes.{planIn}
-use Rattle.block_delivery.specs.DeliveryLentLaws.{loss-at}
-use Rattle.block_delivery.specs.DeliveryRows.{RowOf}
-use Rattle.block_delivery.specs.DeliveryRowLaws.{pair-done}
-use Rattle.block_delivery.specs.DeliveryFilling.{Filled, row-start, row-done, pair-more, place-low}
+use Rattle.block_delivery.specs.Laws.DeliveryLentLaws.{loss-at}
+use Rattle.block_delivery.specs.Laws.DeliveryRows.{RowOf}
+use Rattle.block_delivery.specs.Laws.DeliveryRowLaws.{pair-done}
+use Rattle.block_delivery.specs.Laws.DeliveryFilling.{Filled, row-start, row-done, pair-more, place-low}
 use borrow.Author.Needs.{needs}
 use Rattle.block_delivery.proofs.deliver_row.Statement.{statement}
 use Rattle.block_delivery.proofs.deliver_row.Tie as tie

@@ -3,9 +3,9 @@ use Prim.Native.Nat.{_-_}
 use mathlib.Core.Path.{_≡_, sym, _∙_}
 use native.Mathlib.Omega.{arith}
 use borrow.Author.Needs.{needs}
-use Rattle.lists.specs.Tables.{Filling, fill-start, fill-step, fill-done}
+use Rattle.lists.specs.Laws.TablesLaws.{Filling, fill-start, fill-step, fill-done}
 use Rattle.record_layout.specs.OnBytes.{planIn}
-use Rattle.block_delivery.specs.DeliveryLentLaws.{kw-at}
+use Rattle.block_delivery.specs.Laws.DeliveryLentLaws.{kw-at}
 use Rattle.block_delivery.proofs.kw_row.Statement.{statement}
 use Rattle.block_delivery.proofs.kw_row.Tie as tie
 

@@ -3,7 +3,8 @@ use Prim.Native.Nat.{_-_}
 use mathlib.Core.List.{[]}
 use native.Mathlib.Omega.{arith}
 use borrow.Author.Needs.{needs}
-use Rattle.lists.specs.Tables.{table, Filling, fill-start, fill-step, filled-before}
+use Rattle.lists.specs.Tables.{table}
+use Rattle.lists.specs.Laws.TablesLaws.{Filling, fill-start, fill-step, filled-before}
 use Rattle.record_layout.specs.OnBytes.{planIn}
 use Rattle.block_delivery.proofs.kw_rows.Statement.{statement}
 use Rattle.block_delivery.proofs.kw_rows.Tie as tie

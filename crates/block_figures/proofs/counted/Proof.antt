@@ -1,7 +1,7 @@
 -- `block_figures::counted` is rule 1, by its cases. Assumes nothing.
 use native.Mathlib.Omega.{arith}
 use borrow.Author.Needs.{needs}
-use Rattle.block_figures.specs.CountingLaws.{counted-idle, counted-deemed, counted-smaller}
+use Rattle.block_figures.specs.Laws.CountingLaws.{counted-idle, counted-deemed, counted-smaller}
 use Rattle.block_figures.proofs.counted.Statement.{statement}
 use Rattle.block_figures.proofs.counted.Tie as tie
 

@@ -1,8 +1,8 @@
 -- `block_figures::gap` is rule 4 less what is delivered: each difference is exact. Assumes nothing.
 use native.Mathlib.Omega.{arith}
 use borrow.Author.Needs.{needs}
-use Rattle.energy.specs.EnergyLaws.{loss-le}
-use Rattle.block_figures.specs.OnePairLaws.{gap-deemed, gap-scheduled}
+use Rattle.energy.specs.Laws.EnergyLaws.{loss-le}
+use Rattle.block_figures.specs.Laws.OnePairLaws.{gap-deemed, gap-scheduled}
 use Rattle.block_figures.proofs.gap.Statement.{statement}
 use Rattle.block_figures.proofs.gap.Tie as tie
 

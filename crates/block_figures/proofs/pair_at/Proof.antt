@@ -5,7 +5,7 @@ use native.Mathlib.Omega.{arith}
 use borrow.Author.Needs.{needs}
 use lib.ListN.{getD}
 use Rattle.energy.specs.Energy.{lossOn}
-use Rattle.energy.specs.EnergyLaws.{loss-le}
+use Rattle.energy.specs.Laws.EnergyLaws.{loss-le}
 use Rattle.block_figures.proofs.pair_at.Statement.{statement}
 use Rattle.block_figures.proofs.pair_at.Tie as tie
 

@@ -5,9 +5,10 @@ use native.Mathlib.Omega.{arith}
 use borrow.Author.Needs.{needs}
 use lib.ListN.{getD}
 use Rattle.lists.specs.Pairs.{place}
-use Rattle.lists.specs.PairsLaws.{place-in}
+use Rattle.lists.specs.Laws.PairsLaws.{place-in}
 use Rattle.lists.specs.Sums as sums
-use Rattle.lists.specs.Sums.{sum, sum-none, sum-more, sum-to}
+use Rattle.lists.specs.Sums.{sum}
+use Rattle.lists.specs.Laws.SumsLaws.{sum-none, sum-more, sum-to}
 use Rattle.block_figures.proofs.scheduled_kw.Statement.{statement}
 use Rattle.block_figures.proofs.scheduled_kw.Tie as tie
 

@@ -1,8 +1,8 @@
 -- `block_refusal::any_over` meets its contract: the search finds a reading over the limit where there is one.
 use mathlib.Core.Path.{ap}
-use Rattle.block_rules.specs.BlockRefusals.{overLimit}
+use Rattle.block_rules.specs.Laws.BlockRefusals.{overLimit}
 use Rattle.energy.specs.Limits.{mostReading}
-use Rattle.lists.specs.Tests.{Looking, look-start, look-step, look-done}
+use Rattle.lists.specs.Laws.TestsLaws.{Looking, look-start, look-step, look-done}
 use lib.ListN.{length, getD}
 use lib.Dec.{ltb}
 use Prim.Native.Nat.{_-_}

@@ -1,7 +1,7 @@
 -- `block_refusal::refusal` meets its contract: the tests are those of refusals 10 to 12, in their order, where 2 does not apply.
 use mathlib.Core.Path.{sym}
 use Rattle.block_rules.specs.Block.{blockLength}
-use Rattle.block_rules.specs.BlockRefusals.{number-misfit, number-fit}
+use Rattle.block_rules.specs.Laws.BlockRefusals.{number-misfit, number-fit}
 use native.Mathlib.Nat.{mul-le-mul}
 use native.Mathlib.Omega.{arith}
 use borrow.Author.Needs.{needs}

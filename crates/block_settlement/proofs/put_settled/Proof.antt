@@ -1,6 +1,6 @@
 -- `block_settlement::put_settled` meets its contract: the lists are put one after the other, and the remainder last. Assumes nothing.
 use borrow.Author.Needs.{needs}
-use Rattle.block_settlement.specs.ConsumerPutLaws.{put-length}
+use Rattle.block_settlement.specs.Laws.ConsumerPutLaws.{put-length}
 use Rattle.block_settlement.proofs.put_settled.Statement.{statement}
 use Rattle.block_settlement.proofs.put_settled.Tie as tie
 

@@ -4,12 +4,12 @@ use mathlib.Core.Path.{_≡_, refl, sym, _∙_}
 use native.Mathlib.Omega.{arith}
 use borrow.Author.Needs.{needs}
 use lib.ListN.{length}
-use Rattle.lists.specs.PairsLaws.{place-in}
-use Rattle.block_rules.specs.DeliveredIn.{DeliveredIn}
+use Rattle.lists.specs.Laws.PairsLaws.{place-in}
+use Rattle.block_rules.specs.Laws.DeliveredIn.{DeliveredIn}
 use Rattle.record_layout.specs.OnBytes.{planIn}
-use Rattle.block_settlement.specs.SettlementLent.{exitsIn}
-use Rattle.block_settlement.specs.SettledTo.{SettledTo}
-use Rattle.block_settlement.specs.SettledLaws.{settled-start, settled-done}
+use Rattle.block_settlement.specs.Laws.SettlementLent.{exitsIn}
+use Rattle.block_settlement.specs.Laws.SettledTo.{SettledTo}
+use Rattle.block_settlement.specs.Laws.SettledLaws.{settled-start, settled-done}
 use Rattle.block_settlement.proofs.settle_all.Statement.{statement}
 use Rattle.block_settlement.proofs.settle_all.Tie as tie
 use Rattle.block_settlement.proofs.settle_all.Reads as reads

@@ -2,8 +2,8 @@
 use mathlib.Core.Path.{refl}
 use borrow.Author.Needs.{needs}
 use native.Mathlib.Omega.{arith}
-use Rattle.record_order.specs.TurnsLaws.{turns-held}
-use Rattle.block_settlement.specs.SettledLaws.{consumer-settled}
+use Rattle.record_order.specs.Laws.TurnsLaws.{turns-held}
+use Rattle.block_settlement.specs.Laws.SettledLaws.{consumer-settled}
 use Rattle.block_settlement.proofs.settle_one.Statement.{statement}
 use Rattle.block_settlement.proofs.settle_one.Tie as tie
 

@@ -2,10 +2,10 @@
 use mathlib.Core.Path.{ap, _∙_}
 use native.Mathlib.Omega.{arith}
 use borrow.Author.Needs.{needs}
-use Rattle.block_totals.specs.BlockAfterLaws.{bytes-after, counts-raisable, entry-sized, exit-sized, lists-stand}
-use Rattle.block_totals.specs.BlockTotals.{countsRaised, generatorsRaised, consumersRaised}
-use Rattle.record_runs.specs.RaiseLaws.{next-list}
-use Rattle.block_totals.specs.BlockTotalsLaws.{generators-behind}
+use Rattle.block_totals.specs.Laws.BlockAfterLaws.{bytes-after, counts-raisable, entry-sized, exit-sized, lists-stand}
+use Rattle.block_totals.specs.Laws.BlockTotals.{countsRaised, generatorsRaised, consumersRaised}
+use Rattle.record_runs.specs.Laws.RaiseLaws.{next-list}
+use Rattle.block_totals.specs.Laws.BlockTotalsLaws.{generators-behind}
 use Rattle.block_totals.proofs.raise.Statement.{statement}
 use Rattle.block_totals.proofs.raise.Tie as tie
 

@@ -1,8 +1,8 @@
 -- `block_totals::raise_consumers` meets its contract: each list stands behind those that are raised before it. Assumes nothing.
 use native.Mathlib.Omega.{arith}
 use borrow.Author.Needs.{needs}
-use Rattle.record_runs.specs.RaiseLaws.{next-list, fewer}
-use Rattle.block_totals.specs.BlockTotalsLaws.{consumers-all}
+use Rattle.record_runs.specs.Laws.RaiseLaws.{next-list, fewer}
+use Rattle.block_totals.specs.Laws.BlockTotalsLaws.{consumers-all}
 use Rattle.block_totals.proofs.raise_consumers.Statement.{statement}
 use Rattle.block_totals.proofs.raise_consumers.Tie as tie
 

@@ -1,7 +1,7 @@
 -- `block_totals::raise_counts` meets its contract: each count is written one higher than it was read. Assumes nothing.
 use native.Mathlib.Omega.{arith}
 use borrow.Author.Needs.{needs}
-use Rattle.block_totals.specs.BlockTotalsLaws.{blocks-at, month-at, counts-raised}
+use Rattle.block_totals.specs.Laws.BlockTotalsLaws.{blocks-at, month-at, counts-raised}
 use Rattle.block_totals.proofs.raise_counts.Statement.{statement}
 use Rattle.block_totals.proofs.raise_counts.Tie as tie
 

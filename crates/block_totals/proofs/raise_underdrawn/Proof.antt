@@ -3,10 +3,10 @@ use Prim.Native.Nat.{_<_, _-_, _≤_}
 use mathlib.Core.Path.{_≡_, _∙_}
 use native.Mathlib.Omega.{arith}
 use borrow.Author.Needs.{needs}
-use Rattle.record_runs.specs.Raise.{rowSum, Raised}
-use Rattle.block_totals.specs.BlockTotals.{underdrawnPlace}
-use Rattle.record_runs.specs.RaiseLaws.{row-within, none-raised, one-more, all-raised, row-cap}
-use Rattle.block_totals.specs.BlockTotalsLaws.{place-stays, place-low, place-high}
+use Rattle.record_runs.specs.Laws.Raise.{rowSum, Raised}
+use Rattle.block_totals.specs.Laws.BlockTotals.{underdrawnPlace}
+use Rattle.record_runs.specs.Laws.RaiseLaws.{row-within, none-raised, one-more, all-raised, row-cap}
+use Rattle.block_totals.specs.Laws.BlockTotalsLaws.{place-stays, place-low, place-high}
 use Rattle.record_places.specs.RecordSize.{wordsIn}
 use Rattle.block_totals.proofs.raise_underdrawn.Statement.{statement}
 use Rattle.block_totals.proofs.raise_underdrawn.Tie as tie

@@ -1,7 +1,7 @@
 -- `block_totals::underdrawn_place` meets its contract, by the kind. Assumes nothing.
 use native.Mathlib.Omega.{arith}
 use borrow.Author.Needs.{needs}
-use Rattle.block_totals.specs.BlockTotalsLaws.{inadvertent-place, pending-place}
+use Rattle.block_totals.specs.Laws.BlockTotalsLaws.{inadvertent-place, pending-place}
 use Rattle.record_places.specs.RecordSize.{wordsIn}
 use Rattle.block_totals.proofs.underdrawn_place.Statement.{statement}
 use Rattle.block_totals.proofs.underdrawn_place.Tie as tie

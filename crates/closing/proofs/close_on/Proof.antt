@@ -3,9 +3,9 @@ use mathlib.Core.Path.{_≡_, sym, _∙_}
 use lib.ListN.{length}
 use borrow.Author.Needs.{needs}
 use Rattle.record.specs.Called.{numberOn}
-use Rattle.record_layout.specs.RecordHead.{HeadRead}
+use Rattle.record_layout.specs.Laws.RecordHead.{HeadRead}
 use Rattle.closing_rules.specs.Closing.{closingRule}
-use Rattle.closing.specs.ClosingReady.{listed, closing-accepted, closing-refused}
+use Rattle.closing.specs.Laws.ClosingReady.{listed, closing-accepted, closing-refused}
 use Rattle.record_layout.specs.OnBytes.{recordIn}
 use Rattle.closing.proofs.close_on.Statement.{statement}
 use Rattle.closing.proofs.close_on.Tie as tie

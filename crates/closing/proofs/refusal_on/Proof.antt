@@ -2,9 +2,9 @@
 use mathlib.Core.Bool.{true}
 use mathlib.Core.Path.{_≡_, _∙_, sym}
 use borrow.Author.Needs.{needs}
-use Rattle.record.specs.CalledLaws.{number-unsound, terms-few}
+use Rattle.record.specs.Laws.CalledLaws.{number-unsound, terms-few}
 use Rattle.record.specs.Sound.{sound}
-use Rattle.closing_rules.specs.ClosingRefusals.{record-refusal}
+use Rattle.closing_rules.specs.Laws.ClosingRefusals.{record-refusal}
 use Rattle.record_layout.specs.OnBytes.{bookIn}
 use Rattle.closing.proofs.refusal_on.Statement.{statement}
 use Rattle.closing.proofs.refusal_on.Tie as tie

@@ -3,13 +3,13 @@ use Prim.Native.Nat.{ℕ, _-_, _≤_, _<_}
 use mathlib.Core.Path.{_≡_, sym}
 use native.Mathlib.Omega.{arith}
 use borrow.Author.Needs.{needs}
-use Rattle.lists.specs.PairsLaws.{place-in}
+use Rattle.lists.specs.Laws.PairsLaws.{place-in}
 use Rattle.lists.specs.Pairs.{place}
 use Rattle.record.specs.Plan.{suppliers}
 use Rattle.record_layout.specs.OnBytes.{planIn}
-use Rattle.bank.specs.DrawingSteps.{Drawn, drawing-start, drawing-step, drawing-done}
-use Rattle.record_order.specs.TurnsLaws.{turns-held}
-use Rattle.closing_lists.specs.ClosingReading.{suppliers-are, suppliers-few}
+use Rattle.bank.specs.Laws.DrawingSteps.{Drawn, drawing-start, drawing-step, drawing-done}
+use Rattle.record_order.specs.Laws.TurnsLaws.{turns-held}
+use Rattle.closing_lists.specs.Laws.ClosingReading.{suppliers-are, suppliers-few}
 use Rattle.closing_lists.proofs.draw_all.Statement.{statement}
 use Rattle.closing_lists.proofs.draw_all.Tie as tie
 

@@ -1,8 +1,8 @@
 -- `closing_lists::make` meets its contract: the steps on what was read give the output of the rules.
 use mathlib.Core.Path.{refl}
 use borrow.Author.Needs.{needs}
-use Rattle.closing_lists.specs.ClosingAccepted.{StepsRead, credit-ready, draw-ready, lapse-ready, output-room, lists-are}
-use Rattle.closing_lists.specs.ClosingReading.{steps-read}
+use Rattle.closing_lists.specs.Laws.ClosingAccepted.{StepsRead, credit-ready, draw-ready, lapse-ready, output-room, lists-are}
+use Rattle.closing_lists.specs.Laws.ClosingReading.{steps-read}
 use Rattle.record_layout.specs.OnBytes.{recordIn}
 use Rattle.closing_lists.proofs.make.Statement.{statement}
 use Rattle.closing_lists.proofs.make.Tie as tie

@@ -5,8 +5,8 @@ use native.Mathlib.Nat.{zero-add}
 use native.Mathlib.Omega.{arith}
 use mathlib.Core.List.{List}
 use lib.ListN.{length}
-use Rattle.output_lists.specs.StretchesWritten.{written-none, written-put, written-all}
-use Rattle.closing_lists.specs.ClosingWritten.{sixLists}
+use Rattle.output_lists.specs.Laws.StretchesWritten.{written-none, written-put, written-all}
+use Rattle.closing_lists.specs.Laws.ClosingWritten.{sixLists}
 use borrow.Author.Needs.{needs}
 use Rattle.closing_lists.proofs.write_lists.Statement.{statement}
 use Rattle.closing_lists.proofs.write_lists.Tie as tie

@@ -2,8 +2,8 @@
 use mathlib.Core.Path.{ap, _∙_}
 use native.Mathlib.Omega.{arith}
 use borrow.Author.Needs.{needs}
-use Rattle.closing_totals.specs.ClosingTotals.{totalsRaised, stocksReplaced}
-use Rattle.closing_totals.specs.ClosingAfterLaws.{gone-few, totals-raisable, lists-stand, bytes-after}
+use Rattle.closing_totals.specs.Laws.ClosingTotals.{totalsRaised, stocksReplaced}
+use Rattle.closing_totals.specs.Laws.ClosingAfterLaws.{gone-few, totals-raisable, lists-stand, bytes-after}
 use Rattle.closing_totals.proofs.enter.Statement.{statement}
 use Rattle.closing_totals.proofs.enter.Tie as tie
 

@@ -4,10 +4,10 @@ use mathlib.Core.List.{List}
 use native.Mathlib.Omega.{arith}
 use borrow.Author.Needs.{needs}
 use Rattle.energy.specs.Limits.{mostFigure}
-use Rattle.record_runs.specs.Raise.{Raisable}
-use Rattle.record_runs.specs.RaiseLaws.{next-list, fewer}
-use Rattle.closing_totals.specs.ClosingTotalsLaws.{totals-all}
-use Rattle.record_places.specs.Places.{generatorDrawnAt, lapsedAt, consumerDrawnAt, suppliedAt}
+use Rattle.record_runs.specs.Laws.Raise.{Raisable}
+use Rattle.record_runs.specs.Laws.RaiseLaws.{next-list, fewer}
+use Rattle.closing_totals.specs.Laws.ClosingTotalsLaws.{totals-all}
+use Rattle.record_places.specs.Laws.Places.{generatorDrawnAt, lapsedAt, consumerDrawnAt, suppliedAt}
 use Rattle.closing_totals.proofs.raise_totals.Statement.{statement}
 use Rattle.closing_totals.proofs.raise_totals.Tie as tie
 

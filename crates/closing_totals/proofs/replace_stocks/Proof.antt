@@ -2,7 +2,7 @@
 use native.Mathlib.Omega.{arith}
 use mathlib.Core.Path.{_∙_}
 use borrow.Author.Needs.{needs}
-use Rattle.closing_totals.specs.ClosingTotalsLaws.{stocks-all}
+use Rattle.closing_totals.specs.Laws.ClosingTotalsLaws.{stocks-all}
 use Rattle.closing_totals.proofs.replace_stocks.Statement.{statement}
 use Rattle.closing_totals.proofs.replace_stocks.Tie as tie
 

@@ -1,8 +1,8 @@
 -- `closing_totals::start_month` meets its contract: two counts are written. Assumes nothing.
 use mathlib.Core.Path.{_∙_}
 use borrow.Author.Needs.{needs}
-use Rattle.closing_totals.specs.ClosingTotals.{countsAfter}
-use Rattle.closing_totals.specs.ClosingTotalsLaws.{gone-after}
+use Rattle.closing_totals.specs.Laws.ClosingTotals.{countsAfter}
+use Rattle.closing_totals.specs.Laws.ClosingTotalsLaws.{gone-after}
 use Rattle.closing_totals.proofs.start_month.Statement.{statement}
 use Rattle.closing_totals.proofs.start_month.Tie as tie
 

@@ -3,7 +3,7 @@ use mathlib.Core.Path.{sym, ap, _∙_}
 use borrow.Author.Needs.{needs}
 use Rattle.lists.specs.Tables.{table}
 use Rattle.codec.specs.Bytes.{number}
-use Rattle.codec.specs.BytesPut.{window}
+use Rattle.codec.specs.Laws.BytesPut.{window}
 use Rattle.codec.proofs.number8.Statement.{statement}
 use Rattle.codec.proofs.number8.Tie as tie
 

@@ -3,7 +3,7 @@ use native.Mathlib.Omega.{arith}
 use lib.ListN.{length-set}
 use borrow.Author.Needs.{needs}
 use Rattle.codec.specs.Bytes.{bytes}
-use Rattle.codec.specs.BytesPut.{stores}
+use Rattle.codec.specs.Laws.BytesPut.{stores}
 use Rattle.codec.proofs.put8.Statement.{statement}
 use Rattle.codec.proofs.put8.Tie as tie
 

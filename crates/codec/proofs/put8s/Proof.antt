@@ -6,7 +6,7 @@ use native.Mathlib.Omega.{arith}
 use lib.ListN.{length, take}
 use lib.Seq.{take-all}
 use borrow.Author.Needs.{needs}
-use Rattle.codec.specs.BytesPut.{Put, put-none, put-one, put-more}
+use Rattle.codec.specs.Laws.BytesPut.{Put, put-none, put-one, put-more}
 use Rattle.codec.proofs.put8s.Statement.{statement}
 use Rattle.codec.proofs.put8s.Tie as tie
 

@@ -3,7 +3,7 @@ use Prim.Native.Nat.{_-_}
 use mathlib.Core.Path.{refl}
 use lib.ListN.{length}
 use borrow.Author.Needs.{needs}
-use Rattle.codec.specs.BytesPut.{Reading, read-start, read-step, read-done}
+use Rattle.codec.specs.Laws.BytesPut.{Reading, read-start, read-step, read-done}
 use Rattle.codec.proofs.read4.Statement.{statement}
 use Rattle.codec.proofs.read4.Tie as tie
 

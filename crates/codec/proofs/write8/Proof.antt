@@ -1,7 +1,7 @@
 -- `codec::write8` meets its contract: the numbers put from place 0 on fill the slice. Assumes nothing.
 use native.Mathlib.Omega.{arith}
 use borrow.Author.Needs.{needs}
-use Rattle.codec.specs.BytesPut.{put-all}
+use Rattle.codec.specs.Laws.BytesPut.{put-all}
 use Rattle.codec.proofs.write8.Statement.{statement}
 use Rattle.codec.proofs.write8.Tie as tie
 

@@ -1,6 +1,6 @@
 -- `opening::agreed_from` meets its contract: each part is the list that `column` reads. Assumes nothing.
 use borrow.Author.Needs.{needs}
-use Rattle.agreement_rules.specs.AgreedParts.{agreedFrom}
+use Rattle.agreement_rules.specs.Laws.AgreedParts.{agreedFrom}
 use Rattle.opening.proofs.agreed_from.Statement.{statement}
 use Rattle.opening.proofs.agreed_from.Tie as tie
 

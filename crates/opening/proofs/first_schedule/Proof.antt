@@ -1,8 +1,8 @@
 -- `opening::first_schedule` meets its contract: a list of ones put by rows is rank 1 for each pair, and 0 beyond. Assumes nothing.
 use mathlib.Core.Path.{refl}
 use borrow.Author.Needs.{needs}
-use Rattle.agreement_rules.specs.AgreedReadingLaws.{rows-of-128}
-use Rattle.agreement_rules.specs.AgreedPartsLaws.{first-schedule}
+use Rattle.agreement_rules.specs.Laws.AgreedReadingLaws.{rows-of-128}
+use Rattle.agreement_rules.specs.Laws.AgreedPartsLaws.{first-schedule}
 use Rattle.opening.proofs.first_schedule.Statement.{statement}
 use Rattle.opening.proofs.first_schedule.Tie as tie
 

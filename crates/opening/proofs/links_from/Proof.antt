@@ -1,6 +1,6 @@
 -- `opening::links_from` meets its contract: the first half of the list are the links, the second the losses. Assumes nothing.
 use borrow.Author.Needs.{needs}
-use Rattle.agreement_rules.specs.AgreedPartsLaws.{links-from}
+use Rattle.agreement_rules.specs.Laws.AgreedPartsLaws.{links-from}
 use Rattle.opening.proofs.links_from.Statement.{statement}
 use Rattle.opening.proofs.links_from.Tie as tie
 

@@ -1,7 +1,7 @@
 -- `opening::opening` meets its contract: the record of an accepted opening is read back from the bytes, a refused one gives zeros. Assumes nothing.
 use borrow.Author.Needs.{needs}
-use Rattle.agreement_rules.specs.AgreedPartsLaws.{opening-refused}
-use Rattle.opening.specs.OpenedOnLaws.{opened-back}
+use Rattle.agreement_rules.specs.Laws.AgreedPartsLaws.{opening-refused}
+use Rattle.opening.specs.Laws.OpenedOnLaws.{opened-back}
 use Rattle.opening.proofs.opening.Statement.{statement}
 use Rattle.opening.proofs.opening.Tie as tie
 

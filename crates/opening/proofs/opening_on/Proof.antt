@@ -2,7 +2,7 @@
 use mathlib.Core.Path.{sym, _∙_}
 use borrow.Author.Needs.{needs}
 use borrow.Author.Tests.{ne-eqb}
-use Rattle.agreement_rules.specs.OpeningLaws.{accepted-permitted}
+use Rattle.agreement_rules.specs.Laws.OpeningLaws.{accepted-permitted}
 use Rattle.record_layout.specs.OnBytes.{bytesAfter}
 use Rattle.opening.proofs.opening_on.Statement.{statement}
 use Rattle.opening.proofs.opening_on.Tie as tie

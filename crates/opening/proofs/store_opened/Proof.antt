@@ -4,8 +4,8 @@ use borrow.Author.Needs.{needs}
 use Rattle.codec.specs.Bytes.{encode}
 use Rattle.record.specs.RecordWords.{words}
 use Rattle.record.specs.declared.Record.{Record}
-use Rattle.record_layout.specs.Layout.{laid-then, laid-all, words-parts}
-use Rattle.agreement_rules.specs.AgreedPartsLaws.{opened-parts}
+use Rattle.record_layout.specs.Laws.Layout.{laid-then, laid-all, words-parts}
+use Rattle.agreement_rules.specs.Laws.AgreedPartsLaws.{opened-parts}
 use Rattle.opening.proofs.store_opened.Statement.{statement}
 use Rattle.opening.proofs.store_opened.Tie as tie
 

@@ -1,6 +1,6 @@
 -- `opening::zero_record` meets its contract: every part is zeros. Assumes nothing.
 use borrow.Author.Needs.{needs}
-use Rattle.agreement_rules.specs.AgreedPartsLaws.{zero-parts}
+use Rattle.agreement_rules.specs.Laws.AgreedPartsLaws.{zero-parts}
 use Rattle.opening.proofs.zero_record.Statement.{statement}
 use Rattle.opening.proofs.zero_record.Tie as tie
 

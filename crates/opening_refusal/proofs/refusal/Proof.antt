@@ -4,9 +4,9 @@ use mathlib.Core.Path.{sym, _∙_}
 use native.Mathlib.Nat.{mul-le-mul}
 use native.Mathlib.Omega.{arith}
 use borrow.Author.Needs.{needs}
-use Rattle.agreement_rules.specs.AgreedReading.{Threes}
-use Rattle.agreement_rules.specs.AgreedRefusals.{Fitting}
-use Rattle.agreement_rules.specs.AgreedRefusalsLaws.{sizes-fitting, opening-number, opening-misfit}
+use Rattle.agreement_rules.specs.Laws.AgreedReading.{Threes}
+use Rattle.agreement_rules.specs.Laws.AgreedRefusals.{Fitting}
+use Rattle.agreement_rules.specs.Laws.AgreedRefusalsLaws.{sizes-fitting, opening-number, opening-misfit}
 use Rattle.opening_refusal.proofs.refusal.Statement.{statement}
 use Rattle.opening_refusal.proofs.refusal.Tie as tie
 

@@ -4,7 +4,7 @@ use native.Mathlib.Nat.{mul-le-mul}
 use native.Mathlib.Omega.{arith}
 use Rattle.lists.specs.Tests.{within}
 use Rattle.agreement_rules.specs.Opening.{sizesFit}
-use Rattle.agreement_rules.specs.AgreedRefusalsLaws.{counts-high}
+use Rattle.agreement_rules.specs.Laws.AgreedRefusalsLaws.{counts-high}
 use Rattle.opening_refusal.proofs.sizes_fit.Statement.{statement}
 use Rattle.opening_refusal.proofs.sizes_fit.Tie as tie
 

@@ -4,8 +4,8 @@ use mathlib.Core.Path.{refl}
 use native.Mathlib.Omega.{arith}
 use borrow.Author.Needs.{needs}
 use lib.ListN.{getD}
-use Rattle.lists.specs.Tables.{Filling, fill-start, fill-step}
-use Rattle.output_lists.specs.ColumnsLaws.{Spot, spot, column-read}
+use Rattle.lists.specs.Laws.TablesLaws.{Filling, fill-start, fill-step}
+use Rattle.output_lists.specs.Laws.ColumnsLaws.{Spot, spot, column-read}
 use Rattle.output_lists.proofs.get_column.Statement.{statement}
 use Rattle.output_lists.proofs.get_column.Tie as tie
 

@@ -2,7 +2,7 @@
 use Prim.Native.Nat.{_+_, _*_}
 use mathlib.Core.Path.{refl}
 use borrow.Author.Needs.{needs}
-use Rattle.output_lists.specs.ColumnsLaws.{column-got}
+use Rattle.output_lists.specs.Laws.ColumnsLaws.{column-got}
 use Rattle.output_lists.proofs.get_column_at.Statement.{statement}
 use Rattle.output_lists.proofs.get_column_at.Tie as tie
 

@@ -1,5 +1,5 @@
 -- `output_lists::put16` meets its contract: the stretch comes back as the first n numbers.
-use Rattle.output_lists.specs.ListPutLaws.{lent-list}
+use Rattle.output_lists.specs.Laws.ListPutLaws.{lent-list}
 use borrow.Author.Needs.{needs}
 use Rattle.output_lists.proofs.put16.Statement.{statement}
 use Rattle.output_lists.proofs.put16.Tie as tie

@@ -3,8 +3,8 @@ use Prim.Native.Nat.{_-_, _≤_}
 use mathlib.Core.Path.{_≡_, refl}
 use native.Mathlib.Omega.{arith}
 use borrow.Author.Needs.{needs}
-use Rattle.output_lists.specs.Columns.{ColumnPut}
-use Rattle.output_lists.specs.ColumnsLaws.{put-start, put-step, Spot, spot}
+use Rattle.output_lists.specs.Laws.Columns.{ColumnPut}
+use Rattle.output_lists.specs.Laws.ColumnsLaws.{put-start, put-step, Spot, spot}
 use Rattle.output_lists.proofs.put_column.Statement.{statement}
 use Rattle.output_lists.proofs.put_column.Tie as tie
 

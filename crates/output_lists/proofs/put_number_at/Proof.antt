@@ -2,7 +2,7 @@
 use Prim.Native.Nat.{_+_}
 use native.Mathlib.Omega.{arith}
 use borrow.Author.Needs.{needs}
-use Rattle.output_lists.specs.ColumnsLaws.{number-put}
+use Rattle.output_lists.specs.Laws.ColumnsLaws.{number-put}
 use Rattle.output_lists.proofs.put_number_at.Statement.{statement}
 use Rattle.output_lists.proofs.put_number_at.Tie as tie
 

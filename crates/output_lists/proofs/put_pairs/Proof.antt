@@ -1,6 +1,6 @@
 -- `output_lists::put_pairs` meets its contract: the stretch comes back as the pair list.
-use Rattle.lists.specs.PairsLaws.{length-pairs}
-use Rattle.output_lists.specs.ListPutLaws.{lent-put}
+use Rattle.lists.specs.Laws.PairsLaws.{length-pairs}
+use Rattle.output_lists.specs.Laws.ListPutLaws.{lent-put}
 use borrow.Author.Needs.{needs}
 use Rattle.output_lists.proofs.put_pairs.Statement.{statement}
 use Rattle.output_lists.proofs.put_pairs.Tie as tie

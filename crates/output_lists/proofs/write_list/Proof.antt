@@ -2,7 +2,7 @@
 use Prim.Native.Nat.{_-_}
 use mathlib.Core.Path.{refl}
 use lib.ListN.{length, getD}
-use Rattle.lists.specs.Tables.{Filling, fill-start, fill-step, fill-length, fill-done}
+use Rattle.lists.specs.Laws.TablesLaws.{Filling, fill-start, fill-step, fill-length, fill-done}
 use native.Mathlib.Omega.{arith}
 use borrow.Author.Needs.{needs}
 use Rattle.output_lists.proofs.write_list.Statement.{statement}

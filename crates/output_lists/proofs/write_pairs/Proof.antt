@@ -1,7 +1,7 @@
 -- `output_lists::write_pairs` meets its contract: the rows passed stand one after the other.
 use Prim.Native.Nat.{_+_, _-_, _≤_}
 use Rattle.lists.specs.Pairs.{cell}
-use Rattle.output_lists.specs.RowsWritten.{WritingRows, rows-start, rows-step, rows-length, rows-done, row-fits, row-small, row-copied}
+use Rattle.output_lists.specs.Laws.RowsWritten.{WritingRows, rows-start, rows-step, rows-length, rows-done, row-fits, row-small, row-copied}
 use native.Mathlib.Omega.{arith}
 use borrow.Author.Needs.{needs}
 use Rattle.output_lists.proofs.write_pairs.Statement.{statement}

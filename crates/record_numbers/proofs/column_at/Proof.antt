@@ -2,7 +2,7 @@
 use Prim.Native.Nat.{_+_, _-_, _*_}
 use lib.ListN.{getD}
 use borrow.Author.Needs.{needs}
-use Rattle.lists.specs.Tables.{Filling, fill-start, fill-step, fill-done}
+use Rattle.lists.specs.Laws.TablesLaws.{Filling, fill-start, fill-step, fill-done}
 use Rattle.record_places.specs.RecordSize.{wordsIn}
 use Rattle.record_numbers.proofs.column_at.Statement.{statement}
 use Rattle.record_numbers.proofs.column_at.Tie as tie

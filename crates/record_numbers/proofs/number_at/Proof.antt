@@ -1,7 +1,7 @@
 -- `record_numbers::number_at` meets its contract: the eight bytes there are the number's. Assumes nothing.
 use mathlib.Core.Path.{sym, _∙_}
 use borrow.Author.Needs.{needs}
-use Rattle.codec.specs.BytesLaws.{decode-at}
+use Rattle.codec.specs.Laws.BytesLaws.{decode-at}
 use Rattle.record_places.specs.RecordSize.{recordNumbers}
 use Rattle.record_numbers.proofs.number_at.Statement.{statement}
 use Rattle.record_numbers.proofs.number_at.Tie as tie

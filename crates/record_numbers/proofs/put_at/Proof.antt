@@ -3,7 +3,7 @@ use mathlib.Core.Path.{ap, _∙_}
 use native.Mathlib.Omega.{arith}
 use borrow.Author.Needs.{needs}
 use Rattle.codec.specs.Bytes.{decode}
-use Rattle.codec.specs.BytesLaws.{decode-sets}
+use Rattle.codec.specs.Laws.BytesLaws.{decode-sets}
 use Rattle.record_places.specs.RecordSize.{recordNumbers}
 use Rattle.record_numbers.proofs.put_at.Statement.{statement}
 use Rattle.record_numbers.proofs.put_at.Tie as tie

@@ -3,9 +3,9 @@ use Prim.Native.Nat.{_-_, _≤_}
 use mathlib.Core.Path.{refl, _∙_}
 use native.Mathlib.Omega.{arith}
 use borrow.Author.Needs.{needs}
-use Rattle.record_layout.specs.NumbersRaised.{from}
-use Rattle.record_runs.specs.Raise.{Replaced}
-use Rattle.record_runs.specs.RaiseLaws.{none-replaced, one-replaced, all-replaced}
+use Rattle.record_layout.specs.Laws.NumbersRaised.{from}
+use Rattle.record_runs.specs.Laws.Raise.{Replaced}
+use Rattle.record_runs.specs.Laws.RaiseLaws.{none-replaced, one-replaced, all-replaced}
 use Rattle.record_runs.proofs.clear_numbers.Statement.{statement}
 use Rattle.record_runs.proofs.clear_numbers.Tie as tie
 

@@ -4,9 +4,9 @@ use mathlib.Core.Path.{refl}
 use native.Mathlib.Omega.{arith}
 use lib.ListN.{getD}
 use borrow.Author.Needs.{needs}
-use Rattle.lists.specs.Sums.{Summing, sum-start, sum-step, sum-done}
+use Rattle.lists.specs.Laws.SumsLaws.{Summing, sum-start, sum-step, sum-done}
 use Rattle.energy.specs.Limits.{mostFigure}
-use Rattle.record_runs.specs.RaiseLaws.{row-within}
+use Rattle.record_runs.specs.Laws.RaiseLaws.{row-within}
 use Rattle.record_runs.proofs.column_sum.Statement.{statement}
 use Rattle.record_runs.proofs.column_sum.Tie as tie
 

@@ -3,9 +3,9 @@ use Prim.Native.Nat.{_-_, _≤_}
 use mathlib.Core.Path.{_∙_}
 use native.Mathlib.Omega.{arith}
 use borrow.Author.Needs.{needs}
-use Rattle.record_layout.specs.NumbersRaised.{from}
-use Rattle.record_runs.specs.Raise.{columnSum, Raised}
-use Rattle.record_runs.specs.RaiseLaws.{none-raised, one-more, all-raised, next-low, column-cap}
+use Rattle.record_layout.specs.Laws.NumbersRaised.{from}
+use Rattle.record_runs.specs.Laws.Raise.{columnSum, Raised}
+use Rattle.record_runs.specs.Laws.RaiseLaws.{none-raised, one-more, all-raised, next-low, column-cap}
 use Rattle.record_runs.proofs.raise_columns.Statement.{statement}
 use Rattle.record_runs.proofs.raise_columns.Tie as tie
 

@@ -4,9 +4,9 @@ use mathlib.Core.Path.{_∙_, refl}
 use native.Mathlib.Omega.{arith}
 use lib.ListN.{getD}
 use borrow.Author.Needs.{needs}
-use Rattle.record_layout.specs.NumbersRaised.{from}
-use Rattle.record_runs.specs.Raise.{Raised}
-use Rattle.record_runs.specs.RaiseLaws.{none-raised, one-more, all-raised, next-low}
+use Rattle.record_layout.specs.Laws.NumbersRaised.{from}
+use Rattle.record_runs.specs.Laws.Raise.{Raised}
+use Rattle.record_runs.specs.Laws.RaiseLaws.{none-raised, one-more, all-raised, next-low}
 use Rattle.record_runs.proofs.raise_numbers.Statement.{statement}
 use Rattle.record_runs.proofs.raise_numbers.Tie as tie
 

@@ -4,9 +4,9 @@ use mathlib.Core.Path.{_∙_}
 use native.Mathlib.Omega.{arith}
 use lib.ListN.{getD, length}
 use borrow.Author.Needs.{needs}
-use Rattle.record_layout.specs.NumbersRaised.{from}
-use Rattle.record_runs.specs.Raise.{Raised}
-use Rattle.record_runs.specs.RaiseLaws.{none-raised, one-more, all-raised, next-low}
+use Rattle.record_layout.specs.Laws.NumbersRaised.{from}
+use Rattle.record_runs.specs.Laws.Raise.{Raised}
+use Rattle.record_runs.specs.Laws.RaiseLaws.{none-raised, one-more, all-raised, next-low}
 use Rattle.record_runs.proofs.raise_readings.Statement.{statement}
 use Rattle.record_runs.proofs.raise_readings.Tie as tie
 

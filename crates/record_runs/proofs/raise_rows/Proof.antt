@@ -3,9 +3,9 @@ use Prim.Native.Nat.{_-_, _≤_}
 use mathlib.Core.Path.{_∙_}
 use native.Mathlib.Omega.{arith}
 use borrow.Author.Needs.{needs}
-use Rattle.record_layout.specs.NumbersRaised.{from}
-use Rattle.record_runs.specs.Raise.{rowSum, Raised}
-use Rattle.record_runs.specs.RaiseLaws.{row-within, none-raised, one-more, all-raised, next-low, row-cap}
+use Rattle.record_layout.specs.Laws.NumbersRaised.{from}
+use Rattle.record_runs.specs.Laws.Raise.{rowSum, Raised}
+use Rattle.record_runs.specs.Laws.RaiseLaws.{row-within, none-raised, one-more, all-raised, next-low, row-cap}
 use Rattle.record_runs.proofs.raise_rows.Statement.{statement}
 use Rattle.record_runs.proofs.raise_rows.Tie as tie
 

@@ -4,9 +4,9 @@ use mathlib.Core.Path.{refl, _∙_}
 use native.Mathlib.Omega.{arith}
 use lib.ListN.{getD}
 use borrow.Author.Needs.{needs}
-use Rattle.record_layout.specs.NumbersRaised.{from}
-use Rattle.record_runs.specs.Raise.{Replaced}
-use Rattle.record_runs.specs.RaiseLaws.{none-replaced, one-replaced, all-replaced}
+use Rattle.record_layout.specs.Laws.NumbersRaised.{from}
+use Rattle.record_runs.specs.Laws.Raise.{Replaced}
+use Rattle.record_runs.specs.Laws.RaiseLaws.{none-replaced, one-replaced, all-replaced}
 use Rattle.record_runs.proofs.replace_numbers.Statement.{statement}
 use Rattle.record_runs.proofs.replace_numbers.Tie as tie
 

@@ -1,7 +1,7 @@
 -- `schedule::put_list` meets its contract: the list's rows, spread over the record's places, are put there. Assumes nothing.
 use native.Mathlib.Nat.{zero-add}
 use borrow.Author.Needs.{needs}
-use Rattle.agreement_rules.specs.AgreedReadingLaws.{cell-drop-none}
+use Rattle.agreement_rules.specs.Laws.AgreedReadingLaws.{cell-drop-none}
 use Rattle.schedule.proofs.put_list.Statement.{statement}
 use Rattle.schedule.proofs.put_list.Tie as tie
 

@@ -2,9 +2,9 @@
 use mathlib.Core.Bool.{true}
 use mathlib.Core.Path.{_≡_, sym, _∙_}
 use borrow.Author.Needs.{needs}
-use Rattle.record.specs.CalledLaws.{number-unsound, terms-few}
+use Rattle.record.specs.Laws.CalledLaws.{number-unsound, terms-few}
 use Rattle.record.specs.Sound.{sound}
-use Rattle.schedule.specs.ScheduleEntered.{number-read}
+use Rattle.schedule.specs.Laws.ScheduleEntered.{number-read}
 use Rattle.record_layout.specs.OnBytes.{bookIn}
 use Rattle.schedule.proofs.refusal_on.Statement.{statement}
 use Rattle.schedule.proofs.refusal_on.Tie as tie

@@ -2,7 +2,7 @@
 use mathlib.Core.Path.{_∙_}
 use native.Mathlib.Omega.{arith}
 use borrow.Author.Needs.{needs}
-use Rattle.schedule.specs.ScheduleEntered.{kw-rows, rank-rows, bytes-after}
+use Rattle.schedule.specs.Laws.ScheduleEntered.{kw-rows, rank-rows, bytes-after}
 use Rattle.schedule.proofs.replace_schedule.Statement.{statement}
 use Rattle.schedule.proofs.replace_schedule.Tie as tie
 

@@ -1,8 +1,8 @@
 -- `schedule::schedule` meets its contract: the call on the record's bytes is the call on the record. Assumes nothing.
 use borrow.Author.Needs.{needs}
 use Rattle.record_layout.specs.OnBytes.{recordIn}
-use Rattle.record_layout.specs.OnBytesLaws.{on-struct}
-use Rattle.agreement_rules.specs.ScheduleLaws.{schedule-keeps}
+use Rattle.record_layout.specs.Laws.OnBytesLaws.{on-struct}
+use Rattle.agreement_rules.specs.Laws.ScheduleLaws.{schedule-keeps}
 use Rattle.schedule.proofs.schedule.Statement.{statement}
 use Rattle.schedule.proofs.schedule.Tie as tie
 

@@ -1,7 +1,7 @@
 -- `schedule::schedule_on` meets its contract: an accepted schedule replaces the former one, a refused one changes nothing. Assumes nothing.
 use mathlib.Core.Path.{sym, _∙_}
 use borrow.Author.Needs.{needs}
-use Rattle.schedule.specs.ScheduleEntered.{accepted-here, schedule-accepted, schedule-refused}
+use Rattle.schedule.specs.Laws.ScheduleEntered.{accepted-here, schedule-accepted, schedule-refused}
 use Rattle.schedule.proofs.schedule_on.Statement.{statement}
 use Rattle.schedule.proofs.schedule_on.Tie as tie
 

@@ -6,10 +6,11 @@ use native.Mathlib.Omega.{arith}
 use lib.Dec.{eqb, ltb}
 use borrow.Author.Needs.{needs}
 use Rattle.lists.specs.Pairs.{cell}
-use Rattle.lists.specs.Tests.{some, Looking, look-start, look-step, look-done}
-use Rattle.agreement_rules.specs.AgreedReadingLaws.{first-row-at}
-use Rattle.agreement_rules.specs.AgreedRefusals.{offLink}
-use Rattle.agreement_rules.specs.AgreedRefusalsLaws.{row-off}
+use Rattle.lists.specs.Tests.{some}
+use Rattle.lists.specs.Laws.TestsLaws.{Looking, look-start, look-step, look-done}
+use Rattle.agreement_rules.specs.Laws.AgreedReadingLaws.{first-row-at}
+use Rattle.agreement_rules.specs.Laws.AgreedRefusals.{offLink}
+use Rattle.agreement_rules.specs.Laws.AgreedRefusalsLaws.{row-off}
 use Rattle.schedule_refusal.proofs.off_link.Statement.{statement}
 use Rattle.schedule_refusal.proofs.off_link.Tie as tie
 

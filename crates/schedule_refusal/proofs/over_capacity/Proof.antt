@@ -2,10 +2,10 @@
 use Prim.Native.Nat.{_-_}
 use native.Mathlib.Omega.{arith}
 use borrow.Author.Needs.{needs}
-use Rattle.lists.specs.Tests.{Looking, look-start, look-step, look-done}
-use Rattle.agreement_rules.specs.AgreedReadingLaws.{first-row-at}
-use Rattle.agreement_rules.specs.AgreedRefusals.{overAt, overCapacity}
-use Rattle.agreement_rules.specs.AgreedRefusalsLaws.{row-over}
+use Rattle.lists.specs.Laws.TestsLaws.{Looking, look-start, look-step, look-done}
+use Rattle.agreement_rules.specs.Laws.AgreedReadingLaws.{first-row-at}
+use Rattle.agreement_rules.specs.Laws.AgreedRefusals.{overAt, overCapacity}
+use Rattle.agreement_rules.specs.Laws.AgreedRefusalsLaws.{row-over}
 use Rattle.schedule_refusal.proofs.over_capacity.Statement.{statement}
 use Rattle.schedule_refusal.proofs.over_capacity.Tie as tie
 

@@ -5,8 +5,8 @@ use native.Mathlib.Nat.{mul-le-mul}
 use native.Mathlib.Omega.{arith}
 use lib.ListN.{length}
 use borrow.Author.Needs.{needs}
-use Rattle.agreement_rules.specs.AgreedReading.{RowsAt}
-use Rattle.agreement_rules.specs.AgreedRefusalsLaws.{schedule-number, schedule-misfit, schedule-sizes}
+use Rattle.agreement_rules.specs.Laws.AgreedReading.{RowsAt}
+use Rattle.agreement_rules.specs.Laws.AgreedRefusalsLaws.{schedule-number, schedule-misfit, schedule-sizes}
 use Rattle.schedule_refusal.proofs.refusal.Statement.{statement}
 use Rattle.schedule_refusal.proofs.refusal.Tie as tie
 

@@ -5,7 +5,7 @@ use mathlib.Core.Path.{refl}
 use lib.Dec.{eqb, ltb}
 use lib.ListN.{getD}
 use borrow.Author.Needs.{needs}
-use Rattle.lists.specs.Tests.{Looking, look-start, look-step, look-done}
+use Rattle.lists.specs.Laws.TestsLaws.{Looking, look-start, look-step, look-done}
 use Rattle.schedule_refusal.proofs.row_off_link.Statement.{statement}
 use Rattle.schedule_refusal.proofs.row_off_link.Tie as tie
 

@@ -1,8 +1,8 @@
 -- `sharing::parts` is the table of the parts: what the figures passed bear together is the running share, and never more than the whole. Assumes nothing.
 use Prim.Native.Nat.{_-_}
 use mathlib.Core.Logic.{⊎-elim}
-use Rattle.lists.specs.Tables.{fill-done}
-use Rattle.sharing.specs.ShareLaws.{Sharing, sharing-start, next-le, product-le, share-le, share-rises, sharing-step, sharing-skip}
+use Rattle.lists.specs.Laws.TablesLaws.{fill-done}
+use Rattle.sharing.specs.Laws.ShareLaws.{Sharing, sharing-start, next-le, product-le, share-le, share-rises, sharing-step, sharing-skip}
 use native.Mathlib.Omega.{arith}
 use borrow.Author.Needs.{needs}
 use Rattle.sharing.proofs.parts.Statement.{statement}

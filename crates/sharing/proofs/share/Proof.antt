@@ -3,7 +3,7 @@ use mathlib.Core.Path.{_∙_}
 use native.Mathlib.Omega.{arith}
 use borrow.Author.Needs.{needs}
 use Rattle.lists.specs.Tables.{table}
-use Rattle.sharing.specs.ShareLaws.{shared-over-energy, shared-over-capacity, shared-none, shared-within}
+use Rattle.sharing.specs.Laws.ShareLaws.{shared-over-energy, shared-over-capacity, shared-none, shared-within}
 use Rattle.sharing.proofs.share.Statement.{statement}
 use Rattle.sharing.proofs.share.Tie as tie
 

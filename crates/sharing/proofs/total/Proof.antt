@@ -6,9 +6,9 @@ use mir.Syntax.{w32}
 use mir.Val.{Fits}
 use borrow.Author.Needs.{needs}
 use lib.ListN.{getD}
-use Rattle.lists.specs.PairsLaws.{place-in}
+use Rattle.lists.specs.Laws.PairsLaws.{place-in}
 use Rattle.lists.specs.Pairs.{place}
-use Rattle.lists.specs.Sums.{Summing, sum-start, sum-step, sum-done}
+use Rattle.lists.specs.Laws.SumsLaws.{Summing, sum-start, sum-step, sum-done}
 use Rattle.sharing.proofs.total.Statement.{statement}
 use Rattle.sharing.proofs.total.Tie as tie
 

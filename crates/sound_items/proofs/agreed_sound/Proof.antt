@@ -1,7 +1,7 @@
 -- `sound_items::agreed_sound` meets its contract: it is the definition of `agreedSound`, test by test.
 use borrow.Author.Needs.{needs}
 use Rattle.record.specs.Sound.{agreedSound}
-use Rattle.sound_items.specs.SoundTests.{within-both}
+use Rattle.sound_items.specs.Laws.SoundTests.{within-both}
 use Rattle.sound_items.proofs.agreed_sound.Statement.{statement}
 use Rattle.sound_items.proofs.agreed_sound.Tie as tie
 

@@ -1,6 +1,6 @@
 -- `sound_items::capped` meets its contract: a number below the cap stays, any other becomes the cap.
 use native.Mathlib.Omega.{arith}
-use Rattle.sound_items.specs.CappedLaws.{clip-low, clip-high}
+use Rattle.sound_items.specs.Laws.CappedLaws.{clip-low, clip-high}
 use Rattle.sound_items.proofs.capped.Statement.{statement}
 use Rattle.sound_items.proofs.capped.Tie as tie
 

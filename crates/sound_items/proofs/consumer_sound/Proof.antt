@@ -3,8 +3,8 @@ use mathlib.Core.Bool.{true}
 use mathlib.Core.Path.{refl}
 use borrow.Author.Needs.{needs}
 use Rattle.record.specs.Sound.{consumerSound}
-use Rattle.sound_items.specs.TotalsBeyondLaws.{consumer-beyond}
-use Rattle.sound_items.specs.CappedLaws.{capped-equation, clip-add}
+use Rattle.sound_items.specs.Laws.TotalsBeyondLaws.{consumer-beyond}
+use Rattle.sound_items.specs.Laws.CappedLaws.{capped-equation, clip-add}
 use Rattle.sound_items.proofs.consumer_sound.Statement.{statement}
 use Rattle.sound_items.proofs.consumer_sound.Tie as tie
 

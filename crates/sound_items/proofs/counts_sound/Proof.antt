@@ -1,6 +1,6 @@
 -- `sound_items::counts_sound` meets its contract: it is the definition of `countsSound`, test by test.
 use borrow.Author.Needs.{needs}
-use Rattle.sound_items.specs.SoundTests.{countsTest}
+use Rattle.sound_items.specs.Laws.SoundTests.{countsTest}
 use Rattle.record.specs.Sound.{countsSound}
 use Rattle.sound_items.proofs.counts_sound.Statement.{statement}
 use Rattle.sound_items.proofs.counts_sound.Tie as tie

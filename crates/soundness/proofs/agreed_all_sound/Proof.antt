@@ -2,9 +2,9 @@
 use Prim.Native.Nat.{_-_}
 use lib.Dec.{ltb}
 use borrow.Author.Needs.{needs}
-use Rattle.lists.specs.Tests.{Testing, test-start, test-step, test-done}
+use Rattle.lists.specs.Laws.TestsLaws.{Testing, test-start, test-step, test-done}
 use Rattle.record.specs.Sound.{limit}
-use Rattle.sound_items.specs.SoundTests.{agreedTest}
+use Rattle.sound_items.specs.Laws.SoundTests.{agreedTest}
 use Rattle.record_layout.specs.OnBytes.{recordIn}
 use Rattle.soundness.proofs.agreed_all_sound.Statement.{statement}
 use Rattle.soundness.proofs.agreed_all_sound.Tie as tie

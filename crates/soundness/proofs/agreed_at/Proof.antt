@@ -3,7 +3,7 @@ use mathlib.Core.Path.{_∙_}
 use native.Mathlib.Omega.{arith}
 use lib.Dec.{ltb}
 use borrow.Author.Needs.{needs}
-use Rattle.soundness.specs.PlacesHeldLaws.{agreed-held, limit-high}
+use Rattle.soundness.specs.Laws.PlacesHeldLaws.{agreed-held, limit-high}
 use Rattle.soundness.proofs.agreed_at.Statement.{statement}
 use Rattle.soundness.proofs.agreed_at.Tie as tie
 

@@ -3,10 +3,10 @@ use Prim.Native.Nat.{_+_, _-_}
 use mathlib.Core.Bool.{false}
 use lib.Dec.{eqb}
 use borrow.Author.Needs.{needs}
-use Rattle.lists.specs.Tests.{Testing, test-start, test-step, test-done}
-use Rattle.sound_items.specs.SoundTests.{beyond-next}
-use Rattle.soundness.specs.PairHeld.{pairHeld}
-use Rattle.soundness.specs.PlacesHeldLaws.{pair-held}
+use Rattle.lists.specs.Laws.TestsLaws.{Testing, test-start, test-step, test-done}
+use Rattle.sound_items.specs.Laws.SoundTests.{beyond-next}
+use Rattle.soundness.specs.Laws.PairHeld.{pairHeld}
+use Rattle.soundness.specs.Laws.PlacesHeldLaws.{pair-held}
 use Rattle.soundness.proofs.beyond_sound.Statement.{statement}
 use Rattle.soundness.proofs.beyond_sound.Tie as tie
 

@@ -1,6 +1,6 @@
 -- `soundness::consumer_terms` meets its contract: each term is read at its place.
 use borrow.Author.Needs.{needs}
-use Rattle.soundness.specs.PlacesHeldLaws.{consumer-held}
+use Rattle.soundness.specs.Laws.PlacesHeldLaws.{consumer-held}
 use Rattle.soundness.proofs.consumer_terms.Statement.{statement}
 use Rattle.soundness.proofs.consumer_terms.Tie as tie
 

@@ -2,8 +2,8 @@
 use Prim.Native.Nat.{_-_}
 use mathlib.Core.Path.{_∙_}
 use borrow.Author.Needs.{needs}
-use Rattle.lists.specs.Tests.{Testing, test-start, test-step, test-done}
-use Rattle.sound_items.specs.SoundTests.{consumerTest, consumer-here}
+use Rattle.lists.specs.Laws.TestsLaws.{Testing, test-start, test-step, test-done}
+use Rattle.sound_items.specs.Laws.SoundTests.{consumerTest, consumer-here}
 use Rattle.record_layout.specs.OnBytes.{recordIn}
 use Rattle.soundness.proofs.consumers_sound.Statement.{statement}
 use Rattle.soundness.proofs.consumers_sound.Tie as tie

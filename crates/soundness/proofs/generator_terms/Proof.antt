@@ -1,6 +1,6 @@
 -- `soundness::generator_terms` meets its contract: each term is read at its place.
 use borrow.Author.Needs.{needs}
-use Rattle.soundness.specs.PlacesHeldLaws.{generator-held}
+use Rattle.soundness.specs.Laws.PlacesHeldLaws.{generator-held}
 use Rattle.soundness.proofs.generator_terms.Statement.{statement}
 use Rattle.soundness.proofs.generator_terms.Tie as tie
 

@@ -2,8 +2,8 @@
 use mathlib.Core.Bool.{true}
 use mathlib.Core.Path.{_≡_, _∙_, sym}
 use borrow.Author.Needs.{needs}
-use Rattle.sound_items.specs.SoundTests.{countsTest, CountsFit, counts-fit}
-use Rattle.soundness.specs.PlacesHeldLaws.{sound-held, unsound-held}
+use Rattle.sound_items.specs.Laws.SoundTests.{countsTest, CountsFit, counts-fit}
+use Rattle.soundness.specs.Laws.PlacesHeldLaws.{sound-held, unsound-held}
 use Rattle.soundness.proofs.is_sound.Statement.{statement}
 use Rattle.soundness.proofs.is_sound.Tie as tie
 

@@ -2,7 +2,7 @@
 use mathlib.Core.Bool.{true}
 use mathlib.Core.Path.{_∙_}
 use borrow.Author.Needs.{needs}
-use Rattle.soundness.specs.PlacesHeldLaws.{pair-held}
+use Rattle.soundness.specs.Laws.PlacesHeldLaws.{pair-held}
 use Rattle.soundness.proofs.pair_within.Statement.{statement}
 use Rattle.soundness.proofs.pair_within.Tie as tie
 

@@ -2,9 +2,10 @@
 use Prim.Native.Nat.{_+_, _-_, _*_}
 use lib.Dec.{ltb}
 use borrow.Author.Needs.{needs}
-use Rattle.lists.specs.Tests.{all, Testing, test-start, test-step, test-done}
-use Rattle.sound_items.specs.SoundTests.{pairs-here}
-use Rattle.soundness.specs.PairHeld.{pairHeld}
+use Rattle.lists.specs.Tests.{all}
+use Rattle.lists.specs.Laws.TestsLaws.{Testing, test-start, test-step, test-done}
+use Rattle.sound_items.specs.Laws.SoundTests.{pairs-here}
+use Rattle.soundness.specs.Laws.PairHeld.{pairHeld}
 use Rattle.soundness.proofs.pairs_sound.Statement.{statement}
 use Rattle.soundness.proofs.pairs_sound.Tie as tie
 

@@ -2,9 +2,9 @@
 use Prim.Native.Nat.{_+_, _-_, _*_}
 use mathlib.Core.Bool.{true}
 use borrow.Author.Needs.{needs}
-use Rattle.lists.specs.Tests.{Testing, test-start, test-step, test-done}
-use Rattle.sound_items.specs.SoundTests.{row-here}
-use Rattle.soundness.specs.PairHeld.{pairHeld}
+use Rattle.lists.specs.Laws.TestsLaws.{Testing, test-start, test-step, test-done}
+use Rattle.sound_items.specs.Laws.SoundTests.{row-here}
+use Rattle.soundness.specs.Laws.PairHeld.{pairHeld}
 use Rattle.soundness.proofs.row_sound.Statement.{statement}
 use Rattle.soundness.proofs.row_sound.Tie as tie
 

@@ -3,7 +3,7 @@ use Prim.Native.Nat.{_-_}
 use lib.ListN.{length, getD}
 use native.Mathlib.Omega.{arith}
 use borrow.Author.Needs.{needs}
-use Rattle.table.specs.ReaderLoops.{ended-few, Counted, count-start, count-step, count-done}
+use Rattle.table.specs.Laws.ReaderLoops.{ended-few, Counted, count-start, count-step, count-done}
 use Rattle.table.proofs.count_values.Statement.{statement}
 use Rattle.table.proofs.count_values.Tie as tie
 

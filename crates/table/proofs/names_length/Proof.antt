@@ -3,11 +3,11 @@ use mathlib.Core.Path.{sym, _∙_}
 use lib.ListN.{length-take}
 use native.Mathlib.Omega.{arith}
 use borrow.Author.Needs.{needs}
-use Rattle.table_text.specs.LayingLaws.{put-start, put-length}
-use Rattle.table_text.specs.TableTextLaws.{line-short}
-use Rattle.table.specs.ReaderParts.{namesLength}
-use Rattle.table.specs.TableLaws.{ranged}
-use Rattle.table.specs.ReaderMeets.{starts-is}
+use Rattle.table_text.specs.Laws.LayingLaws.{put-start, put-length}
+use Rattle.table_text.specs.Laws.TableTextLaws.{line-short}
+use Rattle.table.specs.Laws.ReaderParts.{namesLength}
+use Rattle.table.specs.Laws.TableLaws.{ranged}
+use Rattle.table.specs.Laws.ReaderMeets.{starts-is}
 use Rattle.table.proofs.names_length.Statement.{statement}
 use Rattle.table.proofs.names_length.Tie as tie
 

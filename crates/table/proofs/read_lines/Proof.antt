@@ -3,7 +3,7 @@ use mathlib.Core.Path.{sym, _∙_}
 use native.Mathlib.Omega.{arith}
 use borrow.Author.Needs.{needs}
 use borrow.Author.Tests.{not-true, not-false}
-use Rattle.table.specs.ReaderMeets.{formed-tested, room-tested, lines-15, lines-16, lines-laid}
+use Rattle.table.specs.Laws.ReaderMeets.{formed-tested, room-tested, lines-15, lines-16, lines-laid}
 use Rattle.table.proofs.read_lines.Statement.{statement}
 use Rattle.table.proofs.read_lines.Tie as tie
 

@@ -3,8 +3,8 @@ use mathlib.Core.Path.{sym, _∙_}
 use borrow.Author.Tests.{not-true, not-false}
 use native.Mathlib.Omega.{arith}
 use borrow.Author.Needs.{needs}
-use Rattle.table.specs.TableLaws.{ranged}
-use Rattle.table.specs.ReaderMeets.{begun, not-begun, begun-within, meets-2, meets-14, meets, whole-part}
+use Rattle.table.specs.Laws.TableLaws.{ranged}
+use Rattle.table.specs.Laws.ReaderMeets.{begun, not-begun, begun-within, meets-2, meets-14, meets, whole-part}
 use Rattle.table.proofs.read_table.Statement.{statement}
 use Rattle.table.proofs.read_table.Tie as tie
 

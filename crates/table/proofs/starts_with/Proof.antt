@@ -2,7 +2,7 @@
 use Prim.Native.Nat.{_-_}
 use lib.ListN.{length}
 use borrow.Author.Needs.{needs}
-use Rattle.table.specs.ReaderLoops.{Matching, match-start, match-step, match-done, match-short, match-differs}
+use Rattle.table.specs.Laws.ReaderLoops.{Matching, match-start, match-step, match-done, match-short, match-differs}
 use Rattle.table.proofs.starts_with.Statement.{statement}
 use Rattle.table.proofs.starts_with.Tie as tie
 

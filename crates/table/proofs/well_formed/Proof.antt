@@ -4,7 +4,7 @@ use Prim.Native.Nat.{_-_}
 use lib.ListN.{length, getD}
 use native.Mathlib.Omega.{arith}
 use borrow.Author.Needs.{needs}
-use Rattle.table.specs.ReaderLoops.{ended-few, Scanned, scan-start, scan-step, scan-done}
+use Rattle.table.specs.Laws.ReaderLoops.{ended-few, Scanned, scan-start, scan-step, scan-done}
 use Rattle.table.proofs.well_formed.Statement.{statement}
 use Rattle.table.proofs.well_formed.Tie as tie
 

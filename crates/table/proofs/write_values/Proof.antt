@@ -7,7 +7,7 @@ use lib.ListN.{length, getD}
 use native.Mathlib.Omega.{arith}
 use borrow.Author.Needs.{needs}
 use Rattle.table.specs.Table.{fromStart}
-use Rattle.table.specs.ReaderLoops.{ended-few, Writing, writing-start, writing-digit, writing-end, writing-room, writing-length, writing-done}
+use Rattle.table.specs.Laws.ReaderLoops.{ended-few, Writing, writing-start, writing-digit, writing-end, writing-room, writing-length, writing-done}
 use Rattle.table.proofs.write_values.Statement.{statement}
 use Rattle.table.proofs.write_values.Tie as tie
 

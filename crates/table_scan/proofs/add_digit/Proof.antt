@@ -3,7 +3,7 @@ use Prim.Native.Nat.{_+_, _*_}
 use borrow.Author.Tests.{le-leb, lt-leb, eq-eqb, ne-eqb}
 use borrow.Author.Needs.{needs}
 use Rattle.table_scan.specs.Values.{largest}
-use Rattle.table_scan.specs.Scan.{addDigit}
+use Rattle.table_scan.specs.Laws.Scan.{addDigit}
 use Rattle.table_scan.proofs.add_digit.Statement.{statement}
 use Rattle.table_scan.proofs.add_digit.Tie as tie
 

@@ -1,8 +1,8 @@
 -- `table_scan::first_byte` meets its contract, by whether the byte is a digit. Assumes nothing.
 use mathlib.Core.Path.{sym, _∙_}
 use borrow.Author.Needs.{needs}
-use Rattle.table_scan.specs.Scan.{firstByte}
-use Rattle.table_scan.specs.ScanLaws.{digit-low}
+use Rattle.table_scan.specs.Laws.Scan.{firstByte}
+use Rattle.table_scan.specs.Laws.ScanLaws.{digit-low}
 use Rattle.table_scan.proofs.first_byte.Statement.{statement}
 use Rattle.table_scan.proofs.first_byte.Tie as tie
 

@@ -3,8 +3,8 @@ use borrow.Author.Tests.{eq-eqb, ne-eqb}
 use mathlib.Core.Path.{sym, _∙_}
 use native.Mathlib.Omega.{arith}
 use borrow.Author.Needs.{needs}
-use Rattle.table_scan.specs.Scan.{laterByte}
-use Rattle.table_scan.specs.ScanLaws.{digit-low, digit-high}
+use Rattle.table_scan.specs.Laws.Scan.{laterByte}
+use Rattle.table_scan.specs.Laws.ScanLaws.{digit-low, digit-high}
 use Rattle.table_scan.proofs.later_byte.Statement.{statement}
 use Rattle.table_scan.proofs.later_byte.Tie as tie
 

@@ -1,6 +1,6 @@
 -- `table_scan::next_byte` meets its contract, by the cases of the progress. Assumes nothing.
 use borrow.Author.Needs.{needs}
-use Rattle.table_scan.specs.ScanLaws.{next-start, next-digits, next-malformed}
+use Rattle.table_scan.specs.Laws.ScanLaws.{next-start, next-digits, next-malformed}
 use Rattle.table_scan.proofs.next_byte.Statement.{statement}
 use Rattle.table_scan.proofs.next_byte.Tie as tie
 

@@ -1,6 +1,6 @@
 -- `table_scan::value_so_far` meets its contract, by the cases of the progress. Assumes nothing.
 use borrow.Author.Needs.{needs}
-use Rattle.table_scan.specs.Scan.{valueSoFar}
+use Rattle.table_scan.specs.Laws.Scan.{valueSoFar}
 use Rattle.table_scan.proofs.value_so_far.Statement.{statement}
 use Rattle.table_scan.proofs.value_so_far.Tie as tie
 

@@ -1,6 +1,6 @@
 -- `table_scan::values_ended` meets its contract, by whether the byte is a digit. Assumes nothing.
 use borrow.Author.Needs.{needs}
-use Rattle.table_scan.specs.Scan.{valuesEnded}
+use Rattle.table_scan.specs.Laws.Scan.{valuesEnded}
 use Rattle.table_scan.proofs.values_ended.Statement.{statement}
 use Rattle.table_scan.proofs.values_ended.Tie as tie
 

@@ -1,6 +1,6 @@
 -- `table_scan::whole_lines` meets its contract, by the cases of the progress. Assumes nothing.
 use borrow.Author.Needs.{needs}
-use Rattle.table_scan.specs.Scan.{wholeLines}
+use Rattle.table_scan.specs.Laws.Scan.{wholeLines}
 use Rattle.table_scan.proofs.whole_lines.Statement.{statement}
 use Rattle.table_scan.proofs.whole_lines.Tie as tie
 

@@ -4,9 +4,9 @@ use borrow.Author.Needs.{needs}
 use Prim.Native.Nat.{ℕ, _<_}
 use borrow.Fn.Kinds.{In}
 use borrow.Fn.PlainCycle.{Measures, is, falls, and}
-use Rattle.table_text.specs.TableTextLaws.{length-one, length-step}
-use Rattle.table_text.specs.LayingLaws.{put-length}
-use Rattle.table_text.specs.Naming.{put-digit, put-digits}
+use Rattle.table_text.specs.Laws.TableTextLaws.{length-one, length-step}
+use Rattle.table_text.specs.Laws.LayingLaws.{put-length}
+use Rattle.table_text.specs.Laws.Naming.{put-digit, put-digits}
 use Rattle.table_text.proofs.put_decimal.Reads as put-decimal
 use Rattle.table_text.proofs.put_decimal.Kinds as put-decimal-kinds
 use Rattle.table_text.proofs.+put_decimal.Lts-put_decimal as put-decimal-lts

@@ -2,8 +2,8 @@
 use Prim.Native.Nat.{_-_}
 use native.Mathlib.Omega.{arith}
 use borrow.Author.Needs.{needs}
-use Rattle.table_text.specs.LayingLaws.{put-length}
-use Rattle.table_text.specs.Naming.{Lining, lining-start, lining-size, lining-room, lining-step, lining-done}
+use Rattle.table_text.specs.Laws.LayingLaws.{put-length}
+use Rattle.table_text.specs.Laws.Naming.{Lining, lining-start, lining-size, lining-room, lining-step, lining-done}
 use Rattle.table_text.proofs.put_line.Statement.{statement}
 use Rattle.table_text.proofs.put_line.Tie as tie
 

@@ -3,8 +3,8 @@ use mathlib.Core.Path.{ap, _∙_}
 use lib.ListN.{length, length-set}
 use native.Mathlib.Omega.{arith}
 use borrow.Author.Needs.{needs}
-use Rattle.table_text.specs.TableTextLaws.{name-e, name-r}
-use Rattle.table_text.specs.LayingLaws.{put-cons}
+use Rattle.table_text.specs.Laws.TableTextLaws.{name-e, name-r}
+use Rattle.table_text.specs.Laws.LayingLaws.{put-cons}
 use Rattle.table_text.proofs.put_name.Statement.{statement}
 use Rattle.table_text.proofs.put_name.Tie as tie
 

@@ -3,8 +3,8 @@ use mathlib.Core.Path.{refl}
 use Prim.Native.Nat.{_-_}
 use native.Mathlib.Omega.{arith}
 use borrow.Author.Needs.{needs}
-use Rattle.table_text.specs.LayingLaws.{put-length}
-use Rattle.table_text.specs.Naming.{Naming, naming-start, naming-size, naming-room, naming-step, naming-done}
+use Rattle.table_text.specs.Laws.LayingLaws.{put-length}
+use Rattle.table_text.specs.Laws.Naming.{Naming, naming-start, naming-size, naming-room, naming-step, naming-done}
 use Rattle.table_text.proofs.put_names.Statement.{statement}
 use Rattle.table_text.proofs.put_names.Tie as tie
 

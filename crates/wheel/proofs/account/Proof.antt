@@ -1,6 +1,6 @@
 -- `wheel::account` meets its contract, by the number of the month's calls. Assumes nothing.
 use borrow.Author.Needs.{needs}
-use Rattle.wheel.specs.AccountLaws.{shows-refusal, shows-equation}
+use Rattle.wheel.specs.Laws.AccountLaws.{shows-refusal, shows-equation}
 use Rattle.wheel.proofs.account.Statement.{statement}
 use Rattle.wheel.proofs.account.Tie as tie
 

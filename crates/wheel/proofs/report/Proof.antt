@@ -2,8 +2,8 @@
 use native.Mathlib.Omega.{arith}
 use borrow.Author.Needs.{needs}
 use lib.ListN.{length-take}
-use Rattle.wheel_input.specs.InputLaws.{input-room}
-use Rattle.wheel.specs.ReportLaws.{shows-refused, shows-account}
+use Rattle.wheel_input.specs.Laws.InputLaws.{input-room}
+use Rattle.wheel.specs.Laws.ReportLaws.{shows-refused, shows-account}
 use Rattle.wheel.proofs.report.Statement.{statement}
 use Rattle.wheel.proofs.report.Tie as tie
 

@@ -2,7 +2,7 @@
 use mathlib.Core.Path.{sym, _∙_}
 use native.Mathlib.Omega.{arith}
 use borrow.Author.Needs.{needs}
-use Rattle.wheel_input.specs.InputLaws.{shown-lines, shown-refused, input-short, input-long, input-names}
+use Rattle.wheel_input.specs.Laws.InputLaws.{shown-lines, shown-refused, input-short, input-long, input-names}
 use Rattle.wheel_input.proofs.read.Statement.{statement}
 use Rattle.wheel_input.proofs.read.Tie as tie
 

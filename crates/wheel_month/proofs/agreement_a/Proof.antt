@@ -1,7 +1,7 @@
 -- `wheel_month::agreement_a` meets its contract: no number applies to the opening or the schedule of agreement A. Assumes nothing.
 use borrow.Author.Needs.{needs}
 use Rattle.book.specs.AgreementA.{agreementA}
-use Rattle.wheel_month.specs.Entering.{agreement-held}
+use Rattle.wheel_month.specs.Laws.Entering.{agreement-held}
 use Rattle.wheel_month.proofs.agreement_a.Statement.{statement}
 use Rattle.wheel_month.proofs.agreement_a.Tie as tie
 

@@ -1,7 +1,7 @@
 -- `wheel_month::close_month` meets its contract: one closing. Assumes nothing.
 use borrow.Author.Needs.{needs}
 use Rattle.book.specs.BookCalls.{closing, ruleOf}
-use Rattle.wheel_month.specs.CarriedLaws.{carried-on}
+use Rattle.wheel_month.specs.Laws.CarriedLaws.{carried-on}
 use Rattle.wheel_month.proofs.close_month.Statement.{statement}
 use Rattle.wheel_month.proofs.close_month.Tie as tie
 

@@ -3,7 +3,7 @@ use mathlib.Core.List.{[], _∷_}
 use native.Mathlib.Omega.{arith}
 use borrow.Author.Needs.{needs}
 use Rattle.book.specs.BookCalls.{closing}
-use Rattle.wheel_month.specs.CarriedLaws.{carried-then, carried-stop, carried-ready}
+use Rattle.wheel_month.specs.Laws.CarriedLaws.{carried-then, carried-stop, carried-ready}
 use Rattle.wheel_month.proofs.enter_and_close.Statement.{statement}
 use Rattle.wheel_month.proofs.enter_and_close.Tie as tie
 

@@ -2,7 +2,7 @@
 use mathlib.Core.List.{[], _∷_}
 use borrow.Author.Needs.{needs}
 use Rattle.book.specs.BookCalls.{block, ruleOf}
-use Rattle.wheel_month.specs.CarriedLaws.{carried-on}
+use Rattle.wheel_month.specs.Laws.CarriedLaws.{carried-on}
 use Rattle.wheel_month.proofs.enter_line.Statement.{statement}
 use Rattle.wheel_month.proofs.enter_line.Tie as tie
 

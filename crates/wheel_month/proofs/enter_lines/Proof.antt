@@ -3,7 +3,7 @@ use Prim.Native.Nat.{_-_}
 use native.Mathlib.Omega.{arith}
 use borrow.Author.Needs.{needs}
 use lib.ListN.{length}
-use Rattle.wheel_month.specs.Entering.{Entering, entering-start, entering-step, entering-stop, entering-done}
+use Rattle.wheel_month.specs.Laws.Entering.{Entering, entering-start, entering-step, entering-stop, entering-done}
 use Rattle.wheel_month.proofs.enter_lines.Statement.{statement}
 use Rattle.wheel_month.proofs.enter_lines.Tie as tie
 

@@ -1,6 +1,6 @@
 -- `wheel_month::month` meets its contract: agreement A, then the lines and the closing on its bytes. Assumes nothing.
 use borrow.Author.Needs.{needs}
-use Rattle.wheel_month.specs.Entering.{month-ready, month-carried}
+use Rattle.wheel_month.specs.Laws.Entering.{month-ready, month-carried}
 use Rattle.wheel_month.proofs.month.Statement.{statement}
 use Rattle.wheel_month.proofs.month.Tie as tie
 

@@ -3,7 +3,7 @@ use Prim.Native.Nat.{_-_}
 use native.Mathlib.Omega.{arith}
 use borrow.Author.Needs.{needs}
 use lib.ListN.{length}
-use Rattle.wheel_print.specs.PrintingLaws.{Wording, wording-start, wording-size, wording-step, wording-done}
+use Rattle.wheel_print.specs.Laws.PrintingLaws.{Wording, wording-start, wording-size, wording-step, wording-done}
 use Rattle.wheel_print.proofs.put_word.Statement.{statement}
 use Rattle.wheel_print.proofs.put_word.Tie as tie
 

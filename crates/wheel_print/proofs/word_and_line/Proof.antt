@@ -2,8 +2,8 @@
 use native.Mathlib.Omega.{arith}
 use borrow.Author.Needs.{needs}
 use lib.ListN.{length}
-use Rattle.table_text.specs.TableTextLaws.{printed-short}
-use Rattle.wheel_print.specs.PrintingLaws.{shows-two}
+use Rattle.table_text.specs.Laws.TableTextLaws.{printed-short}
+use Rattle.wheel_print.specs.Laws.PrintingLaws.{shows-two}
 use Rattle.wheel_print.proofs.word_and_line.Statement.{statement}
 use Rattle.wheel_print.proofs.word_and_line.Tie as tie
 

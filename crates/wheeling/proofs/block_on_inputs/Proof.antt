@@ -3,8 +3,8 @@ use borrow.Author.Needs.{needs}
 use native.Mathlib.Omega.{arith}
 use mathlib.Core.Path.{sym}
 use lib.ListN.{length-take}
-use Rattle.wheeling_rules.specs.BytesReadLaws.{left-size, left-room}
-use Rattle.wheeling_rules.specs.WheelingLaws.{block-fits, block-written}
+use Rattle.wheeling_rules.specs.Laws.BytesReadLaws.{left-size, left-room}
+use Rattle.wheeling_rules.specs.Laws.WheelingLaws.{block-fits, block-written}
 use Rattle.wheeling.proofs.block_on_inputs.Statement.{statement}
 use Rattle.wheeling.proofs.block_on_inputs.Tie as tie
 

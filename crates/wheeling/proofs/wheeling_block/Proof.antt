@@ -2,7 +2,7 @@
 use borrow.Author.Needs.{needs}
 use native.Mathlib.Omega.{arith}
 use lib.ListN.{length-take}
-use Rattle.wheeling_rules.specs.WheelingLaws.{block-on-bytes, on-other}
+use Rattle.wheeling_rules.specs.Laws.WheelingLaws.{block-on-bytes, on-other}
 use Rattle.wheeling.proofs.wheeling_block.Statement.{statement}
 use Rattle.wheeling.proofs.wheeling_block.Tie as tie
 

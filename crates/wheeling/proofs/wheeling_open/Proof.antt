@@ -2,7 +2,7 @@
 use borrow.Author.Needs.{needs}
 use native.Mathlib.Omega.{arith}
 use lib.ListN.{length-take}
-use Rattle.wheeling_rules.specs.WheelingLaws.{opening-on-bytes, on-other}
+use Rattle.wheeling_rules.specs.Laws.WheelingLaws.{opening-on-bytes, on-other}
 use Rattle.wheeling.proofs.wheeling_open.Statement.{statement}
 use Rattle.wheeling.proofs.wheeling_open.Tie as tie
 

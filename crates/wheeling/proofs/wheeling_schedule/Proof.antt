@@ -2,7 +2,7 @@
 use borrow.Author.Needs.{needs}
 use native.Mathlib.Omega.{arith}
 use lib.ListN.{length-take}
-use Rattle.wheeling_rules.specs.WheelingLaws.{schedule-on-bytes, on-other}
+use Rattle.wheeling_rules.specs.Laws.WheelingLaws.{schedule-on-bytes, on-other}
 use Rattle.wheeling.proofs.wheeling_schedule.Statement.{statement}
 use Rattle.wheeling.proofs.wheeling_schedule.Tie as tie
 

@@ -2,7 +2,7 @@
 use native.Mathlib.Omega.{arith}
 use borrow.Author.Needs.{needs}
 use lib.ListN.{length-take}
-use Rattle.wheeling_rules.specs.BytesReadLaws.{written-accepted, written-refused}
+use Rattle.wheeling_rules.specs.Laws.BytesReadLaws.{written-accepted, written-refused}
 use Rattle.wheeling_lists.proofs.give.Statement.{statement}
 use Rattle.wheeling_lists.proofs.give.Tie as tie
 

@@ -3,7 +3,7 @@ use native.Mathlib.Omega.{arith}
 use borrow.Author.Needs.{needs}
 use mathlib.Core.Path.{refl}
 use lib.ListN.{length-take}
-use Rattle.wheeling_rules.specs.BytesReadLaws.{taken-read, taken-too-many, taken-broken}
+use Rattle.wheeling_rules.specs.Laws.BytesReadLaws.{taken-read, taken-too-many, taken-broken}
 use Rattle.wheeling_lists.proofs.read_input.Statement.{statement}
 use Rattle.wheeling_lists.proofs.read_input.Tie as tie
 

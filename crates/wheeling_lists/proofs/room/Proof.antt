@@ -1,7 +1,7 @@
 -- `wheeling_lists::room` meets its contract: the count of numbers that an output's bytes have room for.
 use borrow.Author.Needs.{needs}
 use mathlib.Core.Path.{refl}
-use Rattle.wheeling_rules.specs.BytesReadLaws.{room-whole, room-too-many, room-broken}
+use Rattle.wheeling_rules.specs.Laws.BytesReadLaws.{room-whole, room-too-many, room-broken}
 use Rattle.wheeling_lists.proofs.room.Statement.{statement}
 use Rattle.wheeling_lists.proofs.room.Tie as tie
 

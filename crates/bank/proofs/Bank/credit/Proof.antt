@@ -2,7 +2,7 @@
 use Prim.Native.Nat.{_-_, _≤_}
 use native.Mathlib.Omega.{arith}
 use borrow.Author.Needs.{needs}
-use Rattle.bank.specs.BankLaws.{Crediting, credit-start, credit-step, credit-done, credit-moderate, credit-exact}
+use Rattle.bank.specs.Laws.BankLaws.{Crediting, credit-start, credit-step, credit-done, credit-moderate, credit-exact}
 use Rattle.bank.proofs.Bank.credit.Statement.{statement}
 use Rattle.bank.proofs.Bank.credit.Tie as tie
 

@@ -1,8 +1,8 @@
 -- `bank::Bank::draw` is step 2 for one consumer: all settle in their order, of whom those who are not linked have nothing. Assumes nothing.
 use mathlib.Core.Path.{refl}
 use borrow.Author.Needs.{needs}
-use Rattle.order.specs.KeptOrder.{turns-below}
-use Rattle.bank.specs.BankLaws.{taken-few, draw-is}
+use Rattle.order.specs.Laws.KeptOrder.{turns-below}
+use Rattle.bank.specs.Laws.BankLaws.{taken-few, draw-is}
 use Rattle.bank.proofs.Bank.draw.Statement.{statement}
 use Rattle.bank.proofs.Bank.draw.Tie as tie
 

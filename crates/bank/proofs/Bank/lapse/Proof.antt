@@ -1,7 +1,7 @@
 -- `bank::Bank::lapse` is step 4, by the two cases of its test. Assumes nothing.
 use mathlib.Core.Path.{_∙_, sym}
 use borrow.Author.Needs.{needs}
-use Rattle.bank.specs.BankLaws.{lapse-all, lapse-none}
+use Rattle.bank.specs.Laws.BankLaws.{lapse-all, lapse-none}
 use Rattle.bank.proofs.Bank.lapse.Statement.{statement}
 use Rattle.bank.proofs.Bank.lapse.Tie as tie
 

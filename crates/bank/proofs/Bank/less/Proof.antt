@@ -4,9 +4,9 @@ use mathlib.Core.Path.{_≡_, sym, _∙_}
 use native.Mathlib.Omega.{arith}
 use lib.ListN.{getD}
 use borrow.Author.Needs.{needs}
-use Rattle.lists.specs.Tables.{Filling, fill-start, fill-step, fill-here, fill-done}
+use Rattle.lists.specs.Laws.TablesLaws.{Filling, fill-start, fill-step, fill-here, fill-done}
 use Rattle.lists.specs.Pairs.{place}
-use Rattle.lists.specs.PairsLaws.{place-in}
+use Rattle.lists.specs.Laws.PairsLaws.{place-in}
 use Rattle.bank.proofs.Bank.less.Statement.{statement}
 use Rattle.bank.proofs.Bank.less.Tie as tie
 

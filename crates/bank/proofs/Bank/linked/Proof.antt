@@ -3,10 +3,10 @@ use Prim.Native.Nat.{_-_}
 use mathlib.Core.Path.{_∙_}
 use lib.Dec.{eqb}
 use borrow.Author.Needs.{needs}
-use Rattle.lists.specs.Tables.{Filling, fill-start, fill-step, fill-done}
+use Rattle.lists.specs.Laws.TablesLaws.{Filling, fill-start, fill-step, fill-done}
 use Rattle.lists.specs.Pairs.{place}
-use Rattle.lists.specs.PairsLaws.{place-in}
-use Rattle.order_rules.specs.Among.{among}
+use Rattle.lists.specs.Laws.PairsLaws.{place-in}
+use Rattle.order_rules.specs.Laws.Among.{among}
 use Rattle.bank.proofs.Bank.linked.Statement.{statement}
 use Rattle.bank.proofs.Bank.linked.Tie as tie
 

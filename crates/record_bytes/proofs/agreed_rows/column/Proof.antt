@@ -3,8 +3,8 @@ use Prim.Native.Nat.{_-_}
 use mathlib.Core.Path.{sym}
 use borrow.Author.Needs.{needs}
 use Rattle.lists.specs.Pairs.{cell}
-use Rattle.lists.specs.PairsLaws.{cell-in}
-use Rattle.lists.specs.Tables.{Filling, fill-start, fill-step, fill-done}
+use Rattle.lists.specs.Laws.PairsLaws.{cell-in}
+use Rattle.lists.specs.Laws.TablesLaws.{Filling, fill-start, fill-step, fill-done}
 use Rattle.record_bytes.proofs.agreed_rows.column.Statement.{statement}
 use Rattle.record_bytes.proofs.agreed_rows.column.Tie as tie
 

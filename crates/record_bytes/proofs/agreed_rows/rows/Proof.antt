@@ -3,9 +3,9 @@ use Prim.Native.Nat.{_-_, _*_, _≤_}
 use mathlib.Core.Path.{sym, _∙_}
 use native.Mathlib.Omega.{arith}
 use borrow.Author.Needs.{needs}
-use Rattle.lists.specs.PairsLaws.{pairs-table}
-use Rattle.lists.specs.Tables.{Filling, fill-start, fill-done}
-use Rattle.record_layout.specs.Layout.{sideBySide, row-step}
+use Rattle.lists.specs.Laws.PairsLaws.{pairs-table}
+use Rattle.lists.specs.Laws.TablesLaws.{Filling, fill-start, fill-done}
+use Rattle.record_layout.specs.Laws.Layout.{sideBySide, row-step}
 use Rattle.record_bytes.proofs.agreed_rows.rows.Statement.{statement}
 use Rattle.record_bytes.proofs.agreed_rows.rows.Tie as tie
 

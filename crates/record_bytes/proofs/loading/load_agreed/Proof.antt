@@ -1,7 +1,7 @@
 -- `record_bytes::loading::load_agreed` meets its contract: the columns are those of the run at place 7. Assumes nothing.
 use mathlib.Core.Path.{_∙_}
 use borrow.Author.Needs.{needs}
-use Rattle.record_layout.specs.Layout.{agreed-at}
+use Rattle.record_layout.specs.Laws.Layout.{agreed-at}
 use Rattle.record_places.specs.RecordSize.{wordsIn}
 use Rattle.record_bytes.proofs.loading.load_agreed.Statement.{statement}
 use Rattle.record_bytes.proofs.loading.load_agreed.Tie as tie

@@ -1,7 +1,7 @@
 -- `record_bytes::loading::load_consumers` meets its contract: each figure is read at its place. Assumes nothing.
 use mathlib.Core.Path.{sym, _∙_}
 use borrow.Author.Needs.{needs}
-use Rattle.record_layout.specs.Layout.{consumers-at}
+use Rattle.record_layout.specs.Laws.Layout.{consumers-at}
 use Rattle.record_places.specs.RecordSize.{wordsIn}
 use Rattle.record_bytes.proofs.loading.load_consumers.Statement.{statement}
 use Rattle.record_bytes.proofs.loading.load_consumers.Tie as tie

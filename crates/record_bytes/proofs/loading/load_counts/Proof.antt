@@ -1,6 +1,6 @@
 -- `record_bytes::loading::load_counts` meets its contract: each figure is read at its place. Assumes nothing.
 use borrow.Author.Needs.{needs}
-use Rattle.record_layout.specs.Layout.{counts-at}
+use Rattle.record_layout.specs.Laws.Layout.{counts-at}
 use Rattle.record_places.specs.RecordSize.{wordsIn}
 use Rattle.record_bytes.proofs.loading.load_counts.Statement.{statement}
 use Rattle.record_bytes.proofs.loading.load_counts.Tie as tie

@@ -4,7 +4,7 @@ use mathlib.Core.Path.{_≡_, _∙_, sym}
 use native.Mathlib.Omega.{arith}
 use lib.ListN.{length}
 use borrow.Author.Needs.{needs}
-use Rattle.codec.specs.BytesLaws.{decode-part}
+use Rattle.codec.specs.Laws.BytesLaws.{decode-part}
 use Rattle.record_places.specs.RecordSize.{recordNumbers}
 use Rattle.record_bytes.proofs.loading.load_run.Statement.{statement}
 use Rattle.record_bytes.proofs.loading.load_run.Tie as tie

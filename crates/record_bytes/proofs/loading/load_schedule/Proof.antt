@@ -1,6 +1,6 @@
 -- `record_bytes::loading::load_schedule` meets its contract: each figure is read at its place. Assumes nothing.
 use borrow.Author.Needs.{needs}
-use Rattle.record_layout.specs.Layout.{schedule-at}
+use Rattle.record_layout.specs.Laws.Layout.{schedule-at}
 use Rattle.record_places.specs.RecordSize.{wordsIn}
 use Rattle.record_bytes.proofs.loading.load_schedule.Statement.{statement}
 use Rattle.record_bytes.proofs.loading.load_schedule.Tie as tie

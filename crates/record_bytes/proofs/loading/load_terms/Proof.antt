@@ -1,6 +1,6 @@
 -- `record_bytes::loading::load_terms` meets its contract: each figure is read at its place. Assumes nothing.
 use borrow.Author.Needs.{needs}
-use Rattle.record_layout.specs.Layout.{terms-at}
+use Rattle.record_layout.specs.Laws.Layout.{terms-at}
 use Rattle.record_places.specs.RecordSize.{wordsIn}
 use Rattle.record_bytes.proofs.loading.load_terms.Statement.{statement}
 use Rattle.record_bytes.proofs.loading.load_terms.Tie as tie

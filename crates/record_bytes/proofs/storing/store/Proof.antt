@@ -1,8 +1,8 @@
 -- `record_bytes::storing::store` meets its contract: the parts, one after the other, fill the record's bytes, from which the record is read back. Assumes nothing.
 use borrow.Author.Needs.{needs}
 use Rattle.record.proofs.Owned.{shaped}
-use Rattle.record_layout.specs.Layout.{laid-then, laid-all, words-parts}
-use Rattle.record_layout.specs.LayoutLaws.{read-back}
+use Rattle.record_layout.specs.Laws.Layout.{laid-then, laid-all, words-parts}
+use Rattle.record_layout.specs.Laws.LayoutLaws.{read-back}
 use Rattle.record_bytes.proofs.storing.store.Statement.{statement}
 use Rattle.record_bytes.proofs.storing.store.Tie as tie
 

@@ -1,6 +1,6 @@
 -- `record_bytes::storing::store_agreed` meets its contract: the rows side by side are put at place 7. Assumes nothing.
 use borrow.Author.Needs.{needs}
-use Rattle.record_layout.specs.Layout.{laid-run}
+use Rattle.record_layout.specs.Laws.Layout.{laid-run}
 use Rattle.record_bytes.proofs.storing.store_agreed.Statement.{statement}
 use Rattle.record_bytes.proofs.storing.store_agreed.Tie as tie
 

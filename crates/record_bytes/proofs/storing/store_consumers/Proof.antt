@@ -2,7 +2,7 @@
 use native.Mathlib.Omega.{arith}
 use borrow.Author.Needs.{needs}
 use Rattle.lists.specs.Pairs.{joined}
-use Rattle.record_layout.specs.Layout.{laid-run, laid-then, laid-last}
+use Rattle.record_layout.specs.Laws.Layout.{laid-run, laid-then, laid-last}
 use Rattle.record_bytes.proofs.storing.store_consumers.Statement.{statement}
 use Rattle.record_bytes.proofs.storing.store_consumers.Tie as tie
 

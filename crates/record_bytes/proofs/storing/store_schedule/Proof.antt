@@ -1,7 +1,7 @@
 -- `record_bytes::storing::store_schedule` meets its contract: the runs are put one after the other. Assumes nothing.
 use borrow.Author.Needs.{needs}
 use Rattle.lists.specs.Pairs.{joined}
-use Rattle.record_layout.specs.Layout.{laid-run, laid-then, laid-last}
+use Rattle.record_layout.specs.Laws.Layout.{laid-run, laid-then, laid-last}
 use Rattle.record_bytes.proofs.storing.store_schedule.Statement.{statement}
 use Rattle.record_bytes.proofs.storing.store_schedule.Tie as tie
 

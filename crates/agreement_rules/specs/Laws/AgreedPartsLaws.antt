@@ -1,0 +1,118 @@
+-- A record made of its parts is the one that the rules store. Assumes nothing.
+use Prim.Native.Nat.{ℕ, _*_, _≤_}
+use mathlib.Core.Path.{_≡_, refl, sym, ap, _∙_}
+use mathlib.Core.List.{List}
+use lib.ListN.{drop, replicate}
+use borrow.Author.Tests.{eq-eqb, ne-eqb}
+use Rattle.lists.specs.Tables.{table}
+use Rattle.lists.specs.Pairs.{cell, pairs}
+use Rattle.record.specs.Book.{noInjection, noConsumption}
+use Rattle.record.specs.Stored.{planOf, figures, storedGenerators, storedConsumers, stored, zeros}
+use Rattle.record.specs.Laws.Shape.{Shape, table-place, pairs-cell, generators-kept, consumers-kept}
+use Rattle.record.specs.declared.Agreed.{Agreed}
+use Rattle.record.specs.declared.Links.{Links}
+use Rattle.record.specs.declared.Schedule.{Schedule}
+use Rattle.record.specs.declared.Generators.{Generators}
+use Rattle.record.specs.declared.Consumers.{Consumers}
+use Rattle.record.specs.declared.Record.{Record}
+use Rattle.agreement_rules.specs.Opening.{Opening, asked, kindOf, installedOf, contractedOf, linkOf, rateOfLoss, openingRefusal, opened, Opened}
+use Rattle.agreement_rules.specs.Schedule.{newKw, newRank, afterSchedule}
+use Rattle.agreement_rules.specs.Laws.AgreedReadingLaws.{cell-drop-none, cell-take, cell-ones}
+use Rattle.agreement_rules.specs.Laws.AgreedParts.{agreedFrom, linksFrom, firstSchedule, scheduleFrom, withSchedule}
+
+-- ---- opening
+
+pub links-from : (n m : ℕ) (xs : List ℕ) {a b : List ℕ} → a ≡ pairs 8 16 (cell n m (drop 0 xs)) → b ≡ pairs 8 16 (cell n m (drop (n * m) xs)) →
+    record { link = a; loss = b } ≡ linksFrom n m xs
+unfolding linksFrom
+links-from n m xs p q = λ i. record { link = (p ∙ ap (pairs 8 16) (cell-drop-none n m xs ∙ sym (cell-take n m xs))) i; loss = q i }
+
+pub zeros8 : replicate {A = ℕ} 8 0 ≡ table 8 (λ g. 0)
+unfolding table
+zeros8 = refl
+
+pub zeros128 : replicate 128 0 ≡ pairs 8 16 (λ g c. 0)
+unfolding table pairs
+zeros128 = refl
+
+pub first-schedule : (n m : ℕ) {b : List ℕ} → n ≤ 8 → m ≤ 16 → b ≡ pairs 8 16 (cell n m (drop 0 (replicate 128 1))) → record { kw = replicate 128 0; rank = b } ≡ firstSchedule n m
+unfolding firstSchedule
+first-schedule n m h k q = λ i. record { kw = zeros128 i; rank = (q ∙ ap (pairs 8 16) (cell-drop-none n m (replicate 128 1) ∙ cell-ones n m h k)) i }
+
+pub zero-parts : {x : Generators} {y : Consumers} → x ≡ storedGenerators (λ g. noInjection) → y ≡ storedConsumers (λ c. noConsumption) →
+    record {
+      terms = record { generators = 0; consumers = 0; rate = 0; cycle = 0 };
+      counts = record { gone = 0; unitblocks = 0; monthblocks = 0 };
+      agreed = record { kind = replicate 8 0; installed = replicate 8 0; contracted = replicate 8 0 };
+      links = record { link = replicate 128 0; loss = replicate 128 0 };
+      schedule = record { kw = replicate 128 0; rank = replicate 128 0 };
+      generators = x;
+      consumers = y;
+    } ≡ zeros
+unfolding zeros stored
+zero-parts x y =
+    λ i. record {
+      terms = record { generators = 0; consumers = 0; rate = 0; cycle = 0 };
+      counts = record { gone = 0; unitblocks = 0; monthblocks = 0 };
+      agreed = record { kind = zeros8 i; installed = zeros8 i; contracted = zeros8 i };
+      links = record { link = zeros128 i; loss = zeros128 i };
+      schedule = record { kw = zeros128 i; rank = zeros128 i };
+      generators = x i;
+      consumers = y i;
+    }
+
+module _ (G C rate cycle gone : ℕ) (generators pairs : List ℕ) where
+  pub opened-parts : {rate′ cycle′ gone′ : ℕ} {a : Agreed} {l : Links} {s : Schedule} {x : Generators} {y : Consumers} → rate′ ≡ rate → cycle′ ≡ cycle → gone′ ≡ gone →
+      a ≡ agreedFrom G generators → l ≡ linksFrom G C pairs → s ≡ firstSchedule G C → x ≡ storedGenerators (λ g. noInjection) → y ≡ storedConsumers (λ c. noConsumption) →
+      record {
+        terms = record { generators = G; consumers = C; rate = rate′; cycle = cycle′ };
+        counts = record { gone = gone′; unitblocks = 0; monthblocks = 0 };
+        agreed = a;
+        links = l;
+        schedule = s;
+        generators = x;
+        consumers = y;
+      } ≡ stored (opened (asked G C rate cycle gone generators pairs))
+  unfolding stored opened agreedFrom linksFrom firstSchedule kindOf installedOf contractedOf linkOf rateOfLoss
+  opened-parts r t o a l s x y =
+      λ i. record {
+        terms = record { generators = G; consumers = C; rate = r i; cycle = t i };
+        counts = record { gone = o i; unitblocks = 0; monthblocks = 0 };
+        agreed = a i;
+        links = l i;
+        schedule = s i;
+        generators = x i;
+        consumers = y i;
+      }
+
+pub opening-accepted : {o : Opening} {r : Record} → openingRefusal o ≡ 0 → r ≡ stored (opened o) → Opened o 0 r
+opening-accepted {o} {r} z e = record { number-is = sym z; record-is = rw (eq-eqb (openingRefusal o) 0 z) e }
+
+pub opening-refused : {o : Opening} {n : ℕ} {r : Record} → (n ≡ 0 → ⊥) → n ≡ openingRefusal o → r ≡ zeros → Opened o n r
+opening-refused {o} {n} {r} z e q = record { number-is = e; record-is = rw (ne-eqb (openingRefusal o) 0 (λ y. z (e ∙ y))) q }
+
+-- ---- schedule
+
+module _ (r : Record) (s : Shape r) where
+  pub scheduled-record : (kws ranks : List ℕ) → withSchedule r (scheduleFrom (r .terms .generators) (r .terms .consumers) kws ranks) ≡ stored (afterSchedule kws ranks (figures r))
+  unfolding stored afterSchedule figures planOf withSchedule scheduleFrom newKw newRank
+  scheduled-record kws ranks =
+      sym
+      (λ i. record {
+        terms = r .terms;
+        counts = r .counts;
+        agreed =
+            record {
+              kind = table-place 8 (r .agreed .kind) (s .agreed .kind) i;
+              installed = table-place 8 (r .agreed .installed) (s .agreed .installed) i;
+              contracted = table-place 8 (r .agreed .contracted) (s .agreed .contracted) i;
+            };
+        links = record { link = pairs-cell (r .links .link) (s .links .link) i; loss = pairs-cell (r .links .loss) (s .links .loss) i };
+        schedule =
+            record {
+              kw = pairs 8 16 (cell (r .terms .generators) (r .terms .consumers) kws);
+              rank = pairs 8 16 (cell (r .terms .generators) (r .terms .consumers) ranks);
+            };
+        generators = generators-kept (r .generators) (s .generators) i;
+        consumers = consumers-kept (r .consumers) (s .consumers) i;
+      })

@@ -1,0 +1,3 @@
+pub mod BankSteps
+pub mod BankLaws
+pub mod DrawingSteps

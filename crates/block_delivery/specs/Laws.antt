@@ -1,0 +1,5 @@
+pub mod DeliveryLent
+pub mod DeliveryLentLaws
+pub mod DeliveryRows
+pub mod DeliveryRowLaws
+pub mod DeliveryFilling

@@ -1,0 +1,3 @@
+pub mod CountingLaws
+pub mod OnePair
+pub mod OnePairLaws

@@ -1,0 +1,12 @@
+pub mod BlockLaws
+pub mod BlockRefusals
+pub mod BlockRoom
+pub mod BlockSettleable
+pub mod BlockAccepted
+pub mod DeliveryLaws
+pub mod Deliverable
+pub mod DeliveredIn
+pub mod SettlementLaws
+pub mod Settleable
+pub mod BlockBeyond
+pub mod OutputPlaces

@@ -1,0 +1,6 @@
+pub mod ConsumerPut
+pub mod ConsumerPutLaws
+pub mod SettlementLent
+pub mod Settles
+pub mod SettledTo
+pub mod SettledLaws

@@ -1,0 +1,3 @@
+pub mod BlockTotals
+pub mod BlockTotalsLaws
+pub mod BlockAfterLaws

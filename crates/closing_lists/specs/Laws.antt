@@ -1,0 +1,5 @@
+pub mod Drawable
+pub mod ClosingMonth
+pub mod ClosingWritten
+pub mod ClosingAccepted
+pub mod ClosingReading

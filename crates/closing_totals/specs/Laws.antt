@@ -1,0 +1,3 @@
+pub mod ClosingTotals
+pub mod ClosingTotalsLaws
+pub mod ClosingAfterLaws

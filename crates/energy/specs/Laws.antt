@@ -1,0 +1,2 @@
+pub mod EnergyLaws
+pub mod Portionable

@@ -1,0 +1,3 @@
+pub mod OrderKeys
+pub mod KeptOrder
+pub mod KeptStock

@@ -1,0 +1,4 @@
+pub mod Members
+pub mod OrderLaws
+pub mod SettleLaws
+pub mod Among

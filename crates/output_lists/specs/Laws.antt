@@ -1,0 +1,9 @@
+pub mod Bounds
+pub mod BoundsLaws
+pub mod ListPut
+pub mod ListPutLaws
+pub mod StretchesWritten
+pub mod RowsWritten
+pub mod Stretches
+pub mod Columns
+pub mod ColumnsLaws

@@ -1,0 +1,169 @@
+-- The laws by which columns of a list, and of a stretch that holds one, are read and put. Assumes nothing.
+use Prim.Native.Nat.{ℕ, _+_, _-_, _*_, _/_, _%_, _≤_, _<_}
+use mathlib.Core.Path.{_≡_, refl, sym, ap, _∙_}
+use mathlib.Core.Bool.{Bool, true, false}
+use mathlib.Core.List.{List}
+use mathlib.Core.Logic.{⊎-elim}
+use native.Mathlib.Nat.{eq-or-lt-of-le, eq-zero-or-pos, mul-le-mul, zero-add}
+use native.Mathlib.Omega.{arith}
+use borrow.Author.Tests.{eqb-true, eqb-false}
+use lib.Dec.{eqb}
+use lib.ListN.{length, getD, drop, set, length-set, replicate, length-replicate}
+use lib.Seq.{ext-getD, getD-set-same, getD-set-other, getD-take, getD-drop}
+use borrow.Rule.Slice.PartMut.{midOf, putMid, mid-len, same-len-mid}
+use Rattle.lists.specs.Tables.{table}
+use Rattle.lists.specs.Laws.TablesLaws.{getD-table, is-table, zeros-at, Filling, filled-before, fill-length}
+use Rattle.lists.specs.Pairs.{pairs}
+use Rattle.lists.specs.Laws.PairsLaws.{pairs-table, row-of, column-of, cell-index}
+use Rattle.output_lists.specs.Laws.ListPutLaws.{put-within, put-before, put-after}
+use Rattle.output_lists.specs.Laws.Columns.{ColumnGot, ColumnPut, ColumnAt, Columns}
+
+pub put-start : {n w : ℕ} {m : List ℕ} {c : ℕ} {xs : List ℕ} → length m ≡ n * w → ColumnPut n w m c xs 0 m
+put-start z = record { size = z; here = λ g l. absurd (omega arith); other = λ g x l b e. refl }
+
+pub put-step : {n w : ℕ} {m m′ : List ℕ} {c : ℕ} {xs : List ℕ} {k v : ℕ} →
+    ColumnPut n w m c xs k m′ → c < w → k < n → v ≡ getD xs k 0 → ColumnPut n w m c xs (k + 1) (set m′ (k * w + c) v)
+put-step {n} {w} {m} {m′} {c} {xs} {k} {v} h a b e =
+    record {
+      size = length-set m′ (k * w + c) v ∙ h .size;
+      here = λ g l.
+          ⊎-elim
+          (λ (q : g ≡ k). rw q (getD-set-same m′ (k * w + c) v 0 (omega (arith, h .size, cell-index n w k c b a)) ∙ e))
+          (λ (o : g < k). getD-set-other m′ (k * w + c) (g * w + c) v 0 (λ q. omega (arith, o, same-row g c k q a)) ∙ h .here g o)
+          (eq-or-lt-of-le (omega arith));
+      other = λ g x l y ne. getD-set-other m′ (k * w + c) (g * w + x) v 0 (λ q. ne (same-column g x k q y)) ∙ h .other g x l y ne;
+    }
+  where
+    same-row : (g x k : ℕ) → g * w + x ≡ k * w + c → x < w → g ≡ k
+    same-row g x k q l = sym (row-of w g x l) ∙ ap (λ (i : ℕ). i / w) q ∙ row-of w k c a
+
+    same-column : (g x k : ℕ) → g * w + x ≡ k * w + c → x < w → x ≡ c
+    same-column g x k q l = sym (column-of w g x l) ∙ ap (λ (i : ℕ). i % w) q ∙ column-of w k c a
+
+-- a loop that has read the whole column
+pub column-read : {n w c : ℕ} {list l xs : List ℕ} {i : ℕ} → Filling 8 (λ g. getD list (g * w + c) 0) l i xs → n ≤ i → ColumnGot n w 0 c list xs
+column-read {n} {w} {c} {list} {l} {xs} {i} h all =
+    record {
+      size = fill-length h;
+      at = λ g b. rw zero-add (ap (λ (ys : List ℕ). getD ys g 0) (h .is) ∙ filled-before l i (λ g. getD list (g * w + c) 0) g 0 (omega arith));
+    }
+
+-- a place of a list of at most 8 rows of 16
+pub record Spot (n w g c : ℕ) : Type 0 where
+  pub row : g * w ≤ 128
+  pub within : g * w + c < n * w
+
+pub spot : (n w g c : ℕ) → g < n → n ≤ 8 → w ≤ 16 → c < w → Spot n w g c
+spot n w g c l h k b =
+    let few : g ≤ 8 = omega arith in
+    let rows-few : g * w ≤ 8 * 16 = mul-le-mul few k in
+    record { row = omega (arith, rows-few); within = cell-index n w g c l b }
+
+-- ---- where the list is the stretch of a slice from place o on and before place e
+
+module _ (n w o e c : ℕ) (whole : o + n * w ≡ e) (in-column : c < w) where
+  width : e - o ≡ n * w
+  width = omega (arith, whole)
+
+  stretch-at : (out : List ℕ) (g x : ℕ) → g < n → x < w → getD (midOf o (e - o) out) (g * w + x) 0 ≡ getD out (o + (g * w + x)) 0
+  stretch-at out g x l b = getD-take (e - o) (drop o out) (g * w + x) 0 (omega (arith, width, cell-index n w g x l b)) ∙ getD-drop o out (g * w + x) 0
+
+  pub column-put : {xs out ys : List ℕ} → e ≤ length out → ColumnPut n w (midOf o (e - o) out) c xs n ys → ColumnAt n w o c xs out (putMid o (e - o) out ys)
+  column-put {xs} {out} {ys} fits h =
+      let from : o ≤ length out = omega (arith, whole, fits) in
+      let size : length ys ≡ e - o = omega (arith, h .size, width) in
+      let at : (g x : ℕ) → g < n → x < w → getD (putMid o (e - o) out ys) (o + (g * w + x)) 0 ≡ getD ys (g * w + x) 0 =
+      λ g x l b. put-within o (e - o) out ys (g * w + x) from (omega (arith, h .size, cell-index n w g x l b)) in
+      record {
+        size = same-len-mid o (e - o) out ys (omega (arith, size, mid-len o e out fits));
+        here = λ g l. at g c l in-column ∙ h .here g l;
+        other = λ g x l b ne. at g x l b ∙ h .other g x l b ne ∙ stretch-at out g x l b;
+        before = λ k l. put-before o (e - o) out ys k from l;
+        after = λ k l. put-after o (e - o) out ys k from size (omega (arith, width));
+      }
+
+  -- a column read from the stretch
+  pub column-got : {out xs : List ℕ} → ColumnGot n w 0 c (midOf o (e - o) out) xs → ColumnGot n w o c out xs
+  column-got {out} h = record { size = h .size; at = λ g l. h .at g l ∙ rw zero-add (stretch-at out g c l in-column) }
+
+-- ---- one number put into the stretch of a slice from place o on and before place e
+
+module _ (o e i x : ℕ) (out : List ℕ) (l : o + i < e) (fits : e ≤ length out) where
+  lent : List ℕ
+  lent = midOf o (e - o) out
+
+  back : List ℕ
+  back = set lent i x
+
+  lent-size : length lent ≡ e - o
+  unfolding lent
+  lent-size = mid-len o e out fits
+
+  back-size : length back ≡ e - o
+  unfolding back
+  back-size = length-set lent i x ∙ lent-size
+
+  elsewhere : (k : ℕ) → (k ≡ o + i → ⊥) → getD (set out (o + i) x) k 0 ≡ getD out k 0
+  elsewhere k ne = getD-set-other out (o + i) k x 0 ne
+
+  within : (j : ℕ) → o + j < e → getD back j 0 ≡ getD (set out (o + i) x) (o + j) 0
+  unfolding back lent
+  within j b = go (eqb j i) refl
+    where
+      go : (t : Bool) → eqb j i ≡ t → getD back j 0 ≡ getD (set out (o + i) x) (o + j) 0
+      go true t = rw (eqb-true j i t) (getD-set-same lent i x 0 (omega (arith, lent-size)) ∙ sym (getD-set-same out (o + i) x 0 (omega arith)))
+      go false t =
+          let ne = eqb-false j i t in
+          getD-set-other lent i j x 0 ne ∙ getD-take (e - o) (drop o out) j 0 (omega arith) ∙ getD-drop o out j 0 ∙ sym (elsewhere (o + j) (λ q. ne (omega arith)))
+
+  pub number-put : putMid o (e - o) out (set (midOf o (e - o) out) i x) ≡ set out (o + i) x
+  unfolding back lent
+  number-put =
+      ext-getD 0 (putMid o (e - o) out back) (set out (o + i) x) (same-len-mid o (e - o) out back (length-set lent i x) ∙ sym (length-set out (o + i) x)) at
+    where
+      at : (k : ℕ) → k < length (putMid o (e - o) out back) → getD (putMid o (e - o) out back) k 0 ≡ getD (set out (o + i) x) k 0
+      at k b =
+          ⊎-elim
+          (λ (q : o - k ≡ 0).
+          ⊎-elim
+          (λ (r : e - k ≡ 0). put-after o (e - o) out back k (omega arith) back-size (omega arith) ∙ sym (elsewhere k (λ z. omega arith)))
+          (λ (r : 0 < e - k).
+          let j : ℕ = k - o in
+          let z : o + j ≡ k = omega arith in
+          rw (← (z)) (put-within o (e - o) out back j (omega arith) (omega (arith, back-size)) ∙ within j (omega arith)))
+          (eq-zero-or-pos (e - k)))
+          (λ (q : 0 < o - k). put-before o (e - o) out back k (omega arith) (omega arith) ∙ sym (elsewhere k (λ z. omega arith)))
+          (eq-zero-or-pos (o - k))
+
+-- ---- a pair list that is filled column by column
+
+pub columns-start : {f : ℕ → ℕ → ℕ} → Columns f 0 (replicate 128 0)
+columns-start {f} =
+    record { size = length-replicate {A = ℕ} 128 0; done = λ g x l b. absurd (omega arith); later = λ g x l b w. zeros-at 128 (g * 16 + x) }
+
+pub columns-step : {f : ℕ → ℕ → ℕ} {m m′ : List ℕ} {c : ℕ} {xs : List ℕ} → Columns f c m → c < 16 → ColumnPut 8 16 m c xs 8 m′ → xs ≡ table 8 (λ g. f g c) → Columns f (c + 1) m′
+columns-step {f} {m} {m′} {c} {xs} h a p e =
+    record {
+      size = p .size;
+      done = λ g x l b.
+          ⊎-elim
+          (λ (q : x ≡ c). rw q (p .here g l ∙ ap (λ (y : List ℕ). getD y g 0) e ∙ getD-table 8 (λ y. f y c) g 0 l))
+          (λ (w : x < c). p .other g x l (omega arith) (λ q. omega arith) ∙ h .done g x l w)
+          (eq-or-lt-of-le (omega arith));
+      later = λ g x l b w. p .other g x l w (λ q. omega arith) ∙ h .later g x l (omega arith) w;
+    }
+
+-- where f is 0 from column c on, the list is f's
+pub columns-pairs : {f : ℕ → ℕ → ℕ} {m : List ℕ} {c : ℕ} → Columns f c m → ((g x : ℕ) → c ≤ x → f g x ≡ 0) → m ≡ pairs 8 16 f
+columns-pairs {f} {m} {c} h z =
+    is-table 0 128 (λ k. f (k / 16) (k % 16)) m (h .size) (λ k b. split k ∙ at (k / 16) (k % 16) (omega arith) (omega arith)) ∙ sym (pairs-table 8 16 f)
+  where
+    split : (k : ℕ) → getD m k 0 ≡ getD m (k / 16 * 16 + k % 16) 0
+    split k = ap (λ (j : ℕ). getD m j 0) (omega arith)
+
+    at : (g x : ℕ) → g < 8 → x < 16 → getD m (g * 16 + x) 0 ≡ f g x
+    at g x l w =
+        ⊎-elim
+        (λ (e : c - x ≡ 0). let b : c ≤ x = omega arith in h .later g x l b w ∙ sym (z g x b))
+        (λ (b : 0 < c - x). h .done g x l (omega arith))
+        (eq-zero-or-pos (c - x))

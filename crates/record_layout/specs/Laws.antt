@@ -1,0 +1,9 @@
+pub mod Layout
+pub mod LayoutLaws
+pub mod FigurePlaces
+pub mod OnBytesLaws
+pub mod RecordHead
+pub mod RecordKept
+pub mod NumbersRaised
+pub mod NumbersReplaced
+pub mod RecordColumns

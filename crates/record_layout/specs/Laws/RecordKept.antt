@@ -1,0 +1,55 @@
+-- A record read from its numbers is stored again as it stands. Assumes nothing.
+use Prim.Native.Nat.{ℕ, _≤_, _<_}
+use mathlib.Core.Path.{_≡_, ap, _∙_}
+use mathlib.Core.List.{List, []}
+use native.Mathlib.Omega.{arith}
+use lib.ListN.{length, getD}
+use Rattle.lists.specs.Laws.TablesLaws.{length-table}
+use Rattle.record.specs.Stored.{figures, stored}
+use Rattle.record.specs.Laws.Shape.{Shape, record-kept}
+use Rattle.record.specs.Laws.SoundLaws.{Facts}
+use Rattle.record.specs.RecordWords.{runLengths, total, words, cut, fromRuns, recordOf}
+use Rattle.energy.specs.Limits.{mostFigure}
+use Rattle.record_layout.specs.Laws.LayoutLaws.{run-length, words-of-record, words-low}
+use Rattle.record_places.specs.RecordSize.{recordNumbers}
+
+module _ (ws : List ℕ) (e : length ws ≡ recordNumbers) where
+  pub record-shape : Shape (recordOf ws)
+  unfolding recordOf fromRuns runLengths cut total
+  record-shape =
+      let size : (j : ℕ) → j < 22 → length (getD (cut runLengths ws) j []) ≡ getD runLengths j 0 = run-length runLengths ws e in
+      record {
+        agreed = record { kind = length-table 8 _; installed = length-table 8 _; contracted = length-table 8 _ };
+        links = record { link = size 2 (omega arith); loss = size 3 (omega arith) };
+        schedule = record { kw = size 4 (omega arith); rank = size 5 (omega arith) };
+        generators =
+            record {
+              injected = size 6 (omega arith);
+              unaccounted = size 7 (omega arith);
+              lost = size 8 (omega arith);
+              setoff = size 9 (omega arith);
+              inadvertent = size 10 (omega arith);
+              charge = size 11 (omega arith);
+              drawn = size 12 (omega arith);
+              lapsed = size 13 (omega arith);
+              bank = size 14 (omega arith);
+              pending = size 15 (omega arith);
+            };
+        consumers =
+            record {
+              metered = size 16 (omega arith);
+              setoff = size 17 (omega arith);
+              shortfall = size 18 (omega arith);
+              drawn = size 19 (omega arith);
+              supplied = size 20 (omega arith);
+              outstanding = size 21 (omega arith);
+            };
+      }
+
+  pub read-kept : stored (figures (recordOf ws)) ≡ recordOf ws
+  read-kept = record-kept (recordOf ws) record-shape
+
+  pub numbers-low : Facts (figures (recordOf ws)) → (i : ℕ) → getD ws i 0 ≤ mostFigure
+  numbers-low f i =
+      let same : words (stored (figures (recordOf ws))) ≡ ws = ap words read-kept ∙ words-of-record ws e in
+      rw same at (words-low (figures (recordOf ws)) f i)

@@ -1,0 +1,2 @@
+pub mod ScheduleAccepted
+pub mod ScheduleEntered

@@ -1,0 +1,4 @@
+pub mod SoundTests
+pub mod Capped
+pub mod CappedLaws
+pub mod TotalsBeyondLaws

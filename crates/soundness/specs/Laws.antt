@@ -1,0 +1,2 @@
+pub mod PairHeld
+pub mod PlacesHeldLaws

@@ -1,0 +1,4 @@
+pub mod TableTextLaws
+pub mod Laying
+pub mod LayingLaws
+pub mod Naming

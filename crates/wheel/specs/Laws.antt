@@ -1,0 +1,2 @@
+pub mod AccountLaws
+pub mod ReportLaws

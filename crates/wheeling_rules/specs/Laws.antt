@@ -1,0 +1,3 @@
+pub mod BytesRead
+pub mod BytesReadLaws
+pub mod WheelingLaws
