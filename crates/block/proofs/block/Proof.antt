@@ -28,7 +28,10 @@ same-length : tie.Need-same-length
 same-length c = search needs
 
 returns : tie.Need-returns
-returns c = on-struct _ _ (block-keeps _ _ _) (c .before .before .before .before .before .before .before .before .before .store .ensures .1) (c .load .ensures) (c .before .before .before .before .before .block-on .ensures)
+returns c =
+    let after-block-on = c .before .before .before .before .before in
+    let after-store = after-block-on .before .before .before .before in
+    on-struct _ _ (block-keeps _ _ _) (after-store .store .ensures .1) (c .load .ensures) (after-block-on .block-on .ensures)
 
 pub block-spec : {M : Type 1} → statement M
 block-spec =

@@ -20,7 +20,8 @@ refusal-requires c κs = terms-few _ (c .before .before .before .before .before 
 
 returns : tie.Need-returns
 returns c =
-    let head = c .before .before .before .before .before .before .pre in
+    let start = c .before .before .before .before .before .before in
+    let head = start .pre in
     c .refusal .ensures ∙ record-refusal _ _ _ _ (head .terms-are) (head .counts-are) (passed (c .before))
 
 returns-2 : tie.Need-returns-2

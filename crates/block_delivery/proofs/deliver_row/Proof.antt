@@ -75,7 +75,9 @@ put-number-at-requires : tie.Need-put-number-at-requires Inv-loop μ-loop
 put-number-at-requires c κs = let i = c .before .before .before in (omega (arith, low i, i .before .loop .inv .1 .0), omega (arith, low i))
 
 mul-put-number-at : tie.Need-mul-put-number-at Inv-loop μ-loop
-mul-put-number-at c = omega (arith, low (c .before .before .before .before .before .before .before))
+mul-put-number-at c =
+    let start = c .before .before .before .before .before .before .before in
+    omega (arith, low (start))
 
 put-number-at-requires-2 : tie.Need-put-number-at-requires-2 Inv-loop μ-loop
 put-number-at-requires-2 c κs =
@@ -84,7 +86,9 @@ put-number-at-requires-2 c κs =
     (omega (arith, low i, i .before .loop .inv .1 .0, first .put-number-at .kept .0), omega (arith, low i))
 
 mul-put-number-at-2 : tie.Need-mul-put-number-at-2 Inv-loop μ-loop
-mul-put-number-at-2 c = omega (arith, low (c .before .before .before .before .before .before .before .before .before .before .before))
+mul-put-number-at-2 c =
+    let start = c .before .before .before .before .before .before .before .before .before .before .before in
+    omega (arith, low (start))
 
 put-number-at-requires-3 : tie.Need-put-number-at-requires-3 Inv-loop μ-loop
 put-number-at-requires-3 c κs =

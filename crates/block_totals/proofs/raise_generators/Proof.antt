@@ -17,49 +17,68 @@ mul-raise-numbers : tie.Need-mul-raise-numbers
 mul-raise-numbers c = search needs
 
 raise-numbers-requires : tie.Need-raise-numbers-requires
-raise-numbers-requires c κs = let start = c .before .before .before .before .before .before .before .before in
+raise-numbers-requires c κs =
+    let after-raise-readings = c .before .before .before in
+    let start = after-raise-readings .before .before .before .before .before in
     let lists = start .pre .1 .1 in
     let few = lists .generators-few in
-    let two = next-list 8 8 (omega (arith, start .pre .1 .0, few)) (omega arith) (start .pre .0) (c .before .before .before .raise-readings .ensures) in
+    let two = next-list 8 8 (omega (arith, start .pre .1 .0, few)) (omega arith) (start .pre .0) (after-raise-readings .raise-readings .ensures) in
     (fewer _ _ few (omega arith) two, (omega (arith, lists .size), lists .moderate))
 
 raise-rows-requires : tie.Need-raise-rows-requires
-raise-rows-requires c κs = let start = c .before .before .before .before .before .before .before .before .before .before .before .before in
+raise-rows-requires c κs =
+    let after-raise-numbers = c .before .before .before in
+    let after-raise-readings = after-raise-numbers .before .before .before .before in
+    let start = after-raise-readings .before .before .before .before .before in
     let lists = start .pre .1 .1 in
     let few = lists .generators-few in
-    let two = next-list 8 8 (omega (arith, start .pre .1 .0, few)) (omega arith) (start .pre .0) (c .before .before .before .before .before .before .before .raise-readings .ensures) in
-    let three = next-list 8 8 few (omega arith) two (c .before .before .before .raise-numbers .ensures) in
+    let two = next-list 8 8 (omega (arith, start .pre .1 .0, few)) (omega arith) (start .pre .0) (after-raise-readings .raise-readings .ensures) in
+    let three = next-list 8 8 few (omega arith) two (after-raise-numbers .raise-numbers .ensures) in
     (fewer _ _ few (omega arith) three, (omega (arith, lists .size), (lists .consumers-few, lists .moderate)))
 
 raise-rows-requires-2 : tie.Need-raise-rows-requires-2
-raise-rows-requires-2 c κs = let start = c .before .before .before .before .before .before .before .before .before .before .before .before .before .before .before .before in
+raise-rows-requires-2 c κs =
+    let after-raise-rows = c .before .before .before in
+    let after-raise-numbers = after-raise-rows .before .before .before .before in
+    let after-raise-readings = after-raise-numbers .before .before .before .before in
+    let start = after-raise-readings .before .before .before .before .before in
     let lists = start .pre .1 .1 in
     let few = lists .generators-few in
-    let two = next-list 8 8 (omega (arith, start .pre .1 .0, few)) (omega arith) (start .pre .0) (c .before .before .before .before .before .before .before .before .before .before .before .raise-readings .ensures) in
-    let three = next-list 8 8 few (omega arith) two (c .before .before .before .before .before .before .before .raise-numbers .ensures) in
-    let four = next-list 8 8 few (omega arith) three (c .before .before .before .raise-rows .ensures) in
+    let two = next-list 8 8 (omega (arith, start .pre .1 .0, few)) (omega arith) (start .pre .0) (after-raise-readings .raise-readings .ensures) in
+    let three = next-list 8 8 few (omega arith) two (after-raise-numbers .raise-numbers .ensures) in
+    let four = next-list 8 8 few (omega arith) three (after-raise-rows .raise-rows .ensures) in
     (fewer _ _ few (omega arith) four, (omega (arith, lists .size), (lists .consumers-few, lists .moderate)))
 
 mul-raise-underdrawn : tie.Need-mul-raise-underdrawn
 mul-raise-underdrawn c = search needs
 
 raise-underdrawn-requires : tie.Need-raise-underdrawn-requires
-raise-underdrawn-requires c κs = let start = c .before .before .before .before .before .before .before .before .before .before .before .before .before .before .before .before .before .before .before .before in
+raise-underdrawn-requires c κs =
+    let after-raise-rows2 = c .before .before .before in
+    let after-raise-rows = after-raise-rows2 .before .before .before .before in
+    let after-raise-numbers = after-raise-rows .before .before .before .before in
+    let after-raise-readings = after-raise-numbers .before .before .before .before in
+    let start = after-raise-readings .before .before .before .before .before in
     let lists = start .pre .1 .1 in
     let few = lists .generators-few in
-    let two = next-list 8 8 (omega (arith, start .pre .1 .0, few)) (omega arith) (start .pre .0) (c .before .before .before .before .before .before .before .before .before .before .before .before .before .before .before .raise-readings .ensures) in
-    let three = next-list 8 8 few (omega arith) two (c .before .before .before .before .before .before .before .before .before .before .before .raise-numbers .ensures) in
-    let four = next-list 8 8 few (omega arith) three (c .before .before .before .before .before .before .before .raise-rows .ensures) in
-    let five = next-list 8 48 few (omega arith) four (c .before .before .before .raise-rows2 .ensures) in
+    let two = next-list 8 8 (omega (arith, start .pre .1 .0, few)) (omega arith) (start .pre .0) (after-raise-readings .raise-readings .ensures) in
+    let three = next-list 8 8 few (omega arith) two (after-raise-numbers .raise-numbers .ensures) in
+    let four = next-list 8 8 few (omega arith) three (after-raise-rows .raise-rows .ensures) in
+    let five = next-list 8 48 few (omega arith) four (after-raise-rows2 .raise-rows2 .ensures) in
     (fewer _ _ (omega arith) (omega arith) five, (omega (arith, lists .size), (few, (lists .consumers-few, lists .moderate))))
 
 same-length : tie.Need-same-length
 same-length c = search needs
 
 returns : tie.Need-returns
-returns c = let start = c .before .before .before .before .before .before .before .before .before .before .before .before .before .before .before .before .before .before .before .before .before .before .before in
+returns c =
+    let after-raise-rows2 = c .before .before .before .before .before .before in
+    let after-raise-rows = after-raise-rows2 .before .before .before .before in
+    let after-raise-numbers = after-raise-rows .before .before .before .before in
+    let after-raise-readings = after-raise-numbers .before .before .before .before in
+    let start = after-raise-readings .before .before .before .before .before in
     let a = start .args in
-    generators-all (a .n) (a .m) (a .entry .now) (a .out .now) (a .s .now) (start .pre .1 .0) (c .before .before .before .before .before .before .before .before .before .before .before .before .before .before .before .before .before .before .raise-readings .ensures) (c .before .before .before .before .before .before .before .before .before .before .before .before .before .before .raise-numbers .ensures) (c .before .before .before .before .before .before .before .before .before .before .raise-rows .ensures) (c .before .before .before .before .before .before .raise-rows2 .ensures) (c .before .before .raise-underdrawn .ensures)
+    generators-all (a .n) (a .m) (a .entry .now) (a .out .now) (a .s .now) (start .pre .1 .0) (after-raise-readings .raise-readings .ensures) (after-raise-numbers .raise-numbers .ensures) (after-raise-rows .raise-rows .ensures) (after-raise-rows2 .raise-rows2 .ensures) (c .before .before .raise-underdrawn .ensures)
 
 pub raise-generators-spec : {M : Type 1} → statement M
 raise-generators-spec =

@@ -24,13 +24,17 @@ underdrawn-place-requires : tie.Need-underdrawn-place-requires Inv-loop μ-loop
 underdrawn-place-requires c κs = search needs
 
 row-sum-requires : tie.Need-row-sum-requires Inv-loop μ-loop
-row-sum-requires c κs = let l = c .before .before .before .before .loop in
-    let start = c .before .before .before .before .before .before .before in
+row-sum-requires c κs =
+    let at-loop = c .before .before .before .before in
+    let start = at-loop .before .before .before in
+    let l = at-loop .loop in
     (omega (arith, start .pre .1 .0, row-within (start .args .n) (start .args .m) (l .g) (omega arith)), start .pre .1 .1 .1)
 
 add-at-requires : tie.Need-add-at-requires Inv-loop μ-loop
-add-at-requires c κs = let l = c .before .before .before .before .before .loop in
-    let start = c .before .before .before .before .before .before .before .before in
+add-at-requires c κs =
+    let at-loop = c .before .before .before .before .before in
+    let start = at-loop .before .before .before in
+    let l = at-loop .loop in
     let able = start .pre .0 in
     let few : l .g < 8 = omega (arith, start .pre .1 .1 .0) in
     let at : c .before .before .underdrawn-place .result ≡ underdrawnPlace (wordsIn (start .args .s .now)) (l .g) = c .before .before .underdrawn-place .ensures ∙ place-stays able few (l .inv .1) in

@@ -62,8 +62,11 @@ loop-less : tie.Need-loop-less Inv-loop μ-loop
 loop-less c = search needs
 
 loop-again : tie.Need-loop-again Inv-loop μ-loop
-loop-again c = let l = c .before .before .before .before .before .before .loop in
-    let a = c .before .before .before .before .before .before .before .before .before .args in
+loop-again c =
+    let at-loop = c .before .before .before .before .before .before in
+    let start = at-loop .before .before .before in
+    let l = at-loop .loop in
+    let a = start .args in
     rows-step _ (l .inv) (search needs) (c .before .before .write-list .ensures) (row-copied (a .m .now) (l .g) (a .w) (omega arith) (omega arith))
 
 same-length : tie.Need-same-length Inv-loop μ-loop

@@ -25,8 +25,10 @@ column-sum-requires : tie.Need-column-sum-requires Inv-loop μ-loop
 column-sum-requires c κs = let start = c .before .before .before .before .before in (start .pre .1 .0, (omega arith, start .pre .1 .1))
 
 add-at-requires : tie.Need-add-at-requires Inv-loop μ-loop
-add-at-requires c κs = let l = c .before .before .before .loop in
-    let start = c .before .before .before .before .before .before in
+add-at-requires c κs =
+    let at-loop = c .before .before .before in
+    let start = at-loop .before .before .before in
+    let l = at-loop .loop in
     let able = start .pre .0 in
     (l .inv .1 .size ∙ able .size, (omega (arith, able .placed), omega (arith, next-low able (l .inv .1), c .column-sum .ensures, column-cap (start .args .n) (start .args .m) (start .args .first) (l .c) (start .pre .1 .1 .1))))
 

@@ -32,8 +32,10 @@ shared-slice-read-add-at : tie.Need-shared-slice-read-add-at Inv-loop μ-loop
 shared-slice-read-add-at c = search needs
 
 add-at-requires : tie.Need-add-at-requires Inv-loop μ-loop
-add-at-requires c κs = let l = c .before .before .before .loop in
-    let start = c .before .before .before .before .before .before in
+add-at-requires c κs =
+    let at-loop = c .before .before .before in
+    let start = at-loop .before .before .before in
+    let l = at-loop .loop in
     let able = start .pre .0 in
     (l .inv .1 .size ∙ able .size, (omega (arith, able .placed), omega (arith, next-low able (l .inv .1), start .pre .1 .1 .at (start .args .first + l .i))))
 

@@ -32,8 +32,11 @@ wide-requires : tie.Need-wide-requires Inv-loop μ-loop
 wide-requires c κs = search needs
 
 add-at-requires : tie.Need-add-at-requires Inv-loop μ-loop
-add-at-requires c κs = let l = c .before .before .before .before .loop in
-    let able = c .before .before .before .before .before .before .before .pre in
+add-at-requires c κs =
+    let at-loop = c .before .before .before .before in
+    let start = at-loop .before .before .before in
+    let l = at-loop .loop in
+    let able = start .pre in
     (l .inv .1 .size ∙ able .size, (omega (arith, able .placed), omega (arith, next-low able (l .inv .1), c .wide .ensures, c .before .shared-slice-known2 .given (l .i))))
 
 add-i : tie.Need-add-i Inv-loop μ-loop

@@ -32,8 +32,11 @@ shared-slice-read-put-at : tie.Need-shared-slice-read-put-at Inv-loop μ-loop
 shared-slice-read-put-at c = search needs
 
 put-at-requires : tie.Need-put-at-requires Inv-loop μ-loop
-put-at-requires c κs = let l = c .before .before .before .loop in
-    let able = c .before .before .before .before .before .before .pre .0 in
+put-at-requires c κs =
+    let at-loop = c .before .before .before in
+    let start = at-loop .before .before .before in
+    let l = at-loop .loop in
+    let able = start .pre .0 in
     (l .inv .1 .size ∙ able .size, omega (arith, able .placed))
 
 add-k : tie.Need-add-k Inv-loop μ-loop

@@ -43,8 +43,11 @@ loop-less : tie.Need-loop-less Inv-loop μ-loop
 loop-less c = search needs
 
 loop-again : tie.Need-loop-again Inv-loop μ-loop
-loop-again c = let l = c .before .before .before .before .loop in
-    look-step (l .inv) (search needs) (row-over (c .before .before .before .before .before .before .args .t1) _ _ _ _ _ (search needs) (search needs) (c .before .before .row-total .ensures))
+loop-again c =
+    let at-loop = c .before .before .before .before in
+    let start = at-loop .before .before in
+    let l = at-loop .loop in
+    look-step (l .inv) (search needs) (row-over (start .args .t1) _ _ _ _ _ (search needs) (search needs) (c .before .before .row-total .ensures))
 
 returns : tie.Need-returns Inv-loop μ-loop
 unfolding overCapacity

@@ -41,11 +41,17 @@ add-split-4 c = search needs
 returns : tie.Need-returns
 unfolding consumerSound
 returns c =
-    rw (c .before .before .before .before .before .before .before .if1 .taken) (capped-equation true _ _ refl (c .before .before .before .before .before .before .before .before .pre)
-    (clip-add (clip-add (clip-add (clip-add (c .before .before .before .before .before .before .capped .ensures .cut)
-    (c .before .before .before .before .before .capped2 .ensures))
-    (c .before .before .before .before .capped3 .ensures))
-    (c .before .before .before .capped4 .ensures))
+    let after-capped4 = c .before .before .before in
+    let after-capped3 = after-capped4 .before in
+    let after-capped2 = after-capped3 .before in
+    let after-capped = after-capped2 .before in
+    let at-if1 = after-capped .before in
+    let start = at-if1 .before in
+    rw (at-if1 .if1 .taken) (capped-equation true _ _ refl (start .pre)
+    (clip-add (clip-add (clip-add (clip-add (after-capped .capped .ensures .cut)
+    (after-capped2 .capped2 .ensures))
+    (after-capped3 .capped3 .ensures))
+    (after-capped4 .capped4 .ensures))
     (c .before .before .capped5 .ensures)))
 
 returns-2 : tie.Need-returns-2

@@ -16,7 +16,11 @@ in-range-requires-3 c κs = search needs
 
 returns : tie.Need-returns
 unfolding countsTest countsSound
-returns c = rw (c .before .before .before .before .before .before .before .before .in-range .ensures, c .before .before .before .before .before .before .before .in-range2 .ensures, c .before .before .before .before .before .in-range3 .ensures)
+returns c =
+    let after-in-range3 = c .before .before .before .before .before in
+    let after-in-range2 = after-in-range3 .before .before in
+    let after-in-range = after-in-range2 .before in
+    rw (after-in-range .in-range .ensures, after-in-range2 .in-range2 .ensures, after-in-range3 .in-range3 .ensures)
 
 pub counts-sound-spec : {M : Type 1} → statement M
 counts-sound-spec =

@@ -65,19 +65,31 @@ add-split-8 c = search needs
 returns : tie.Need-returns
 unfolding generatorSound
 returns c =
-    rw (c .before .before .before .before .before .before .before .before .before .before .before .if1 .taken) (capped-equation true _ _ refl (c .before .before .before .before .before .before .before .before .before .before .before .before .pre)
-    (clip-add (clip-add (clip-add (clip-add (clip-add (clip-add (clip-add (clip-add (c .before .before .before .before .before .before .before .before .before .before .capped .ensures .cut)
-    (c .before .before .before .before .before .before .before .before .before .capped2 .ensures))
-    (c .before .before .before .before .before .before .before .before .capped3 .ensures))
-    (c .before .before .before .before .before .before .before .capped4 .ensures))
-    (c .before .before .before .before .before .before .capped5 .ensures))
-    (c .before .before .before .before .before .capped6 .ensures))
-    (c .before .before .before .before .capped7 .ensures))
-    (c .before .before .before .capped8 .ensures))
+    let after-capped8 = c .before .before .before in
+    let after-capped7 = after-capped8 .before in
+    let after-capped6 = after-capped7 .before in
+    let after-capped5 = after-capped6 .before in
+    let after-capped4 = after-capped5 .before in
+    let after-capped3 = after-capped4 .before in
+    let after-capped2 = after-capped3 .before in
+    let after-capped = after-capped2 .before in
+    let at-if1 = after-capped .before in
+    let start = at-if1 .before in
+    rw (at-if1 .if1 .taken) (capped-equation true _ _ refl (start .pre)
+    (clip-add (clip-add (clip-add (clip-add (clip-add (clip-add (clip-add (clip-add (after-capped .capped .ensures .cut)
+    (after-capped2 .capped2 .ensures))
+    (after-capped3 .capped3 .ensures))
+    (after-capped4 .capped4 .ensures))
+    (after-capped5 .capped5 .ensures))
+    (after-capped6 .capped6 .ensures))
+    (after-capped7 .capped7 .ensures))
+    (after-capped8 .capped8 .ensures))
     (c .before .before .capped9 .ensures)))
 
 returns-2 : tie.Need-returns-2
-returns-2 c = rw (c .before .before .before .before .before .before .before .before .if1 .left) (generator-beyond _ _)
+returns-2 c =
+    let at-if1 = c .before .before .before .before .before .before .before .before in
+    rw (at-if1 .if1 .left) (generator-beyond _ _)
 
 pub generator-sound-spec : {M : Type 1} → statement M
 generator-sound-spec =

@@ -39,12 +39,16 @@ agreed-sound-requires c κs = search needs
 
 returns : tie.Need-returns
 returns c =
+    let after-number-at = c .before .before .before in
+    let after-row-total = after-number-at .before in
+    let after-columns-within = after-row-total .before in
+    let start = after-columns-within .before .before in
     c .agreed-sound .ensures ∙
-    agreed-held _ _ _ _ (c .before .before .before .before .before .before .before .pre .1 .0)
-    (c .before .before .before .number-at .ensures)
+    agreed-held _ _ _ _ (start .pre .1 .0)
+    (after-number-at .number-at .ensures)
     (c .before .before .number-at2 .ensures)
     (c .before .number-at3 .ensures)
-    (rw (← (c .before .before .before .before .before .columns-within .ensures)) (c .before .before .before .before .row-total .ensures))
+    (rw (← (after-columns-within .columns-within .ensures)) (after-row-total .row-total .ensures))
 
 pub agreed-at-spec : {M : Type 1} → statement M
 agreed-at-spec =

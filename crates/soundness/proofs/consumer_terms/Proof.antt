@@ -42,11 +42,15 @@ number-at-requires-6 c κs = search needs
 
 returns : tie.Need-returns
 returns c =
-    consumer-held _ _ (c .before .before .before .before .before .before .before .pre .1)
+    let after-number-at3 = c .before .before .before in
+    let after-number-at2 = after-number-at3 .before in
+    let after-number-at = after-number-at2 .before in
+    let start = after-number-at .before .before in
+    consumer-held _ _ (start .pre .1)
     (λ i. record {
-      metered = c .before .before .before .before .before .number-at .ensures i;
-      setoff = c .before .before .before .before .number-at2 .ensures i;
-      shortfall = c .before .before .before .number-at3 .ensures i;
+      metered = after-number-at .number-at .ensures i;
+      setoff = after-number-at2 .number-at2 .ensures i;
+      shortfall = after-number-at3 .number-at3 .ensures i;
       drawn = c .before .before .number-at4 .ensures i;
       supplied = c .before .number-at5 .ensures i;
       outstanding = c .number-at6 .ensures i;

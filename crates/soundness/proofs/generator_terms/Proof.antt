@@ -66,15 +66,23 @@ number-at-requires-10 c κs = search needs
 
 returns : tie.Need-returns
 returns c =
-    generator-held _ _ (c .before .before .before .before .before .before .before .before .before .before .before .pre .1)
+    let after-number-at7 = c .before .before .before in
+    let after-number-at6 = after-number-at7 .before in
+    let after-number-at5 = after-number-at6 .before in
+    let after-number-at4 = after-number-at5 .before in
+    let after-number-at3 = after-number-at4 .before in
+    let after-number-at2 = after-number-at3 .before in
+    let after-number-at = after-number-at2 .before in
+    let start = after-number-at .before .before in
+    generator-held _ _ (start .pre .1)
     (λ i. record {
-      injected = c .before .before .before .before .before .before .before .before .before .number-at .ensures i;
-      unaccounted = c .before .before .before .before .before .before .before .before .number-at2 .ensures i;
-      lost = c .before .before .before .before .before .before .before .number-at3 .ensures i;
-      setoff = c .before .before .before .before .before .before .number-at4 .ensures i;
-      inadvertent = c .before .before .before .before .before .number-at5 .ensures i;
-      charge = c .before .before .before .before .number-at6 .ensures i;
-      drawn = c .before .before .before .number-at7 .ensures i;
+      injected = after-number-at .number-at .ensures i;
+      unaccounted = after-number-at2 .number-at2 .ensures i;
+      lost = after-number-at3 .number-at3 .ensures i;
+      setoff = after-number-at4 .number-at4 .ensures i;
+      inadvertent = after-number-at5 .number-at5 .ensures i;
+      charge = after-number-at6 .number-at6 .ensures i;
+      drawn = after-number-at7 .number-at7 .ensures i;
       lapsed = c .before .before .number-at8 .ensures i;
       bank = c .before .number-at9 .ensures i;
       pending = c .number-at10 .ensures i;

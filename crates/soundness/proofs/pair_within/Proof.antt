@@ -35,10 +35,13 @@ pair-sound-requires c κs = search needs
 
 returns : tie.Need-returns
 returns c =
+    let after-number-at2 = c .before .before .before in
+    let after-number-at = after-number-at2 .before in
+    let start = after-number-at .before .before in
     c .pair-sound .ensures ∙
-    pair-held _ true _ (c .before .before .before .before .before .before .pre .1)
-    (c .before .before .before .before .number-at .ensures)
-    (c .before .before .before .number-at2 .ensures)
+    pair-held _ true _ (start .pre .1)
+    (after-number-at .number-at .ensures)
+    (after-number-at2 .number-at2 .ensures)
     (c .before .before .number-at3 .ensures)
     (c .before .number-at4 .ensures)
 

@@ -42,10 +42,11 @@ starts-with-requires c κs = search needs
 returns : tie.Need-returns
 unfolding namesLength
 returns c =
-    let s = c .before .before .before .before .before .before .before in
+    let after-put-names = c .before .before .before .before in
+    let s = after-put-names .before .before .before in
     let r = ranged (s .args .g) (s .args .c) (s .pre) in
     let l = line-short (s .args .g) (s .args .c) (r .g-high) (r .c-high) in
-    let p = c .before .before .before .before .put-names .ensures in
+    let p = after-put-names .put-names .ensures in
     let q = starts-is (s .args .g) (s .args .c) (s .args .text .now) _ (put-start p (omega arith)) in
     let e = sym q ∙ sym (c .before .starts-with .ensures) ∙ c .if1 .taken in
     rw e (omega (arith, p .ends))
@@ -53,10 +54,11 @@ returns c =
 returns-2 : tie.Need-returns-2
 unfolding namesLength
 returns-2 c =
-    let s = c .before .before .before .before .before .before .before in
+    let after-put-names = c .before .before .before .before in
+    let s = after-put-names .before .before .before in
     let r = ranged (s .args .g) (s .args .c) (s .pre) in
     let l = line-short (s .args .g) (s .args .c) (r .g-high) (r .c-high) in
-    let p = c .before .before .before .before .put-names .ensures in
+    let p = after-put-names .put-names .ensures in
     let q = starts-is (s .args .g) (s .args .c) (s .args .text .now) _ (put-start p (omega arith)) in
     let e = sym q ∙ sym (c .before .starts-with .ensures) ∙ c .if1 .left in
     rw e

@@ -23,9 +23,11 @@ count-values-requires c κs = search needs
 
 returns-2 : tie.Need-returns-2
 returns-2 c =
+    let after-well-formed = c .before .before .before in
+    let start = after-well-formed .before .before .before in
     lines-16
-    (c .before .before .before .before .before .before .args .out .now)
-    (sym (c .before .before .before .well-formed .ensures) ∙ not-false _ (c .before .before .if1 .left))
+    (start .args .out .now)
+    (sym (after-well-formed .well-formed .ensures) ∙ not-false _ (c .before .before .if1 .left))
     (omega (arith, c .before .count-values .ensures, c .if2 .taken))
 
 count-lines-requires : tie.Need-count-lines-requires
@@ -36,14 +38,16 @@ same-length c = search needs
 
 returns-3 : tie.Need-returns-3
 returns-3 c =
-    let k = c .before .before .before .before .before .before in
+    let after-write-values = c .before .before .before in
+    let at-if2 = after-write-values .before .before in
+    let k = at-if2 .before in
     rw (c .count-lines .ensures, k .count-values .ensures)
     (lines-laid
     _
     _
     (sym (k .before .before .well-formed .ensures) ∙ not-false _ (k .before .if1 .left))
-    (omega (arith, k .count-values .ensures, c .before .before .before .before .before .if2 .left))
-    (c .before .before .before .write-values .ensures))
+    (omega (arith, k .count-values .ensures, at-if2 .if2 .left))
+    (after-write-values .write-values .ensures))
 
 pub read-lines-spec : {M : Type 1} → statement M
 read-lines-spec =

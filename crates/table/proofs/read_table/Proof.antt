@@ -26,8 +26,9 @@ names-length-requires c κs = sym (c .before .in-range .ensures) ∙ not-false _
 
 returns-2 : tie.Need-returns-2
 returns-2 c =
-    let s = c .before .before .before .before .before .before in
-    let r = sym (c .before .before .before .in-range .ensures) ∙ not-false _ (c .before .before .if1 .left) in
+    let after-in-range = c .before .before .before in
+    let s = after-in-range .before .before .before in
+    let r = sym (after-in-range .in-range .ensures) ∙ not-false _ (c .before .before .if1 .left) in
     meets-14
     (s .args .g)
     (s .args .c)
@@ -81,7 +82,8 @@ same-length c = search needs
 
 returns-3 : tie.Need-returns-3
 returns-3 c =
-    let b = c .before .before .before .before .before .before in
+    let at-if2 = c .before .before .before .before .before in
+    let b = at-if2 .before in
     let s = b .before .before .before .before .before in
     let r = sym (b .before .before .in-range .ensures) ∙ not-false _ (b .before .if1 .left) in
     meets
@@ -92,7 +94,7 @@ returns-3 c =
     (s .args .out .now)
     (c .before .before .read-lines .result)
     (c .before .before .read-lines .last .1 .1 .0)
-    (begun r (b .names-length .ensures) (c .before .before .before .before .before .if2 .left))
+    (begun r (b .names-length .ensures) (at-if2 .if2 .left))
     (rw (whole-part (b .names-length .result) (s .args .text .now)) at (c .before .before .read-lines .ensures))
 
 pub read-table-spec : {M : Type 1} → statement M

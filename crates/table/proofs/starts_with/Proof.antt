@@ -26,10 +26,12 @@ shared-slice-read-if2-2 c = search needs
 
 returns-2 : tie.Need-returns-2 Inv-loop μ-loop
 returns-2 c =
+    let at-loop = c .before .before .before .before in
+    let start = at-loop .before .before in
     match-differs
-    (c .before .before .before .before .before .before .args .text .now)
-    (c .before .before .before .before .before .before .args .line .now)
-    (c .before .before .before .before .loop .i)
+    (start .args .text .now)
+    (start .args .line .now)
+    (at-loop .loop .i)
     (search needs)
     (c .if2 .taken)
 

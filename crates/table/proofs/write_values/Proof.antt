@@ -64,13 +64,15 @@ loop-less c = search needs
 
 loop-again : tie.Need-loop-again Inv-loop μ-loop
 loop-again c =
-    let b = c .before .before .before .before in
-    let h = c .before .before .before .before .before .before .before .loop .inv in
+    let at-if1 = c .before .before .before in
+    let b = at-if1 .before in
+    let at-loop = b .before .before .before in
+    let h = at-loop .loop .inv in
     let n = rw (c .before .before .separator-after .ensures) at (c .before .next-byte .ensures) in
     ⊎-elim
     (λ u. rw (u .2) (writing-end h (search needs) (sym (b .is-digit .ensures) ∙ not-true _ (u .0 .taken)) (u .1 .ensures) n (c .values-ended .ensures)))
     (λ u. rw (u .1) (writing-digit h (search needs) (sym (b .is-digit .ensures) ∙ not-false _ (u .0 .left)) n (c .values-ended .ensures)))
-    (c .before .before .before .if1 .came)
+    (at-if1 .if1 .came)
 
 same-length : tie.Need-same-length Inv-loop μ-loop
 same-length c = writing-length (c .before .loop .inv)

@@ -32,15 +32,19 @@ separator-after-requires c κs = search needs
 
 slice-write-buf : tie.Need-slice-write-buf Inv-loop μ-loop
 slice-write-buf c =
-    let h = c .before .before .before .before .before .before .before .loop .inv in
-    let p = c .before .before .before .put-decimal .ensures in
+    let after-put-decimal = c .before .before .before in
+    let at-loop = after-put-decimal .before .before .before .before in
+    let h = at-loop .loop .inv in
+    let p = after-put-decimal .put-decimal .ensures in
     let r = lining-room h (search needs) in
     omega (arith, p .ends, put-length p (omega arith))
 
 add-at : tie.Need-add-at Inv-loop μ-loop
 add-at c =
-    let h = c .before .before .before .before .before .before .before .loop .inv in
-    let p = c .before .before .before .put-decimal .ensures in
+    let after-put-decimal = c .before .before .before in
+    let at-loop = after-put-decimal .before .before .before .before in
+    let h = at-loop .loop .inv in
+    let p = after-put-decimal .put-decimal .ensures in
     let r = lining-room h (search needs) in
     omega (arith, p .ends, lining-size h)
 
@@ -52,11 +56,13 @@ loop-less c = search needs
 
 loop-again : tie.Need-loop-again Inv-loop μ-loop
 loop-again c =
+    let after-put-decimal = c .before .before .before in
+    let at-loop = after-put-decimal .before .before .before .before in
     lining-step
     (c .separator-after .result)
-    (c .before .before .before .before .before .before .before .loop .inv)
+    (at-loop .loop .inv)
     (search needs)
-    (c .before .before .before .put-decimal .ensures)
+    (after-put-decimal .put-decimal .ensures)
     (c .separator-after .ensures)
 
 same-length : tie.Need-same-length Inv-loop μ-loop

@@ -32,15 +32,19 @@ separator-after-requires c κs =
 
 slice-write-buf : tie.Need-slice-write-buf Inv-loop μ-loop
 slice-write-buf c =
-    let h = c .before .before .before .before .before .before .loop .inv in
-    let p = c .before .before .before .put-name .ensures in
+    let after-put-name = c .before .before .before in
+    let at-loop = after-put-name .before .before .before in
+    let h = at-loop .loop .inv in
+    let p = after-put-name .put-name .ensures in
     let r = naming-room h (search needs) in
     omega (arith, p .ends, put-length p (omega arith))
 
 add-i : tie.Need-add-i Inv-loop μ-loop
 add-i c =
-    let h = c .before .before .before .before .before .before .loop .inv in
-    let p = c .before .before .before .put-name .ensures in
+    let after-put-name = c .before .before .before in
+    let at-loop = after-put-name .before .before .before in
+    let h = at-loop .loop .inv in
+    let p = after-put-name .put-name .ensures in
     let r = naming-room h (search needs) in
     omega (arith, p .ends, naming-size h)
 
@@ -52,11 +56,13 @@ loop-less c = search needs
 
 loop-again : tie.Need-loop-again Inv-loop μ-loop
 loop-again c =
+    let after-put-name = c .before .before .before in
+    let at-loop = after-put-name .before .before .before in
     naming-step
     (c .separator-after .result)
-    (c .before .before .before .before .before .before .loop .inv)
+    (at-loop .loop .inv)
     (search needs)
-    (c .before .before .before .put-name .ensures)
+    (after-put-name .put-name .ensures)
     (c .separator-after .ensures)
 
 same-length : tie.Need-same-length Inv-loop μ-loop

@@ -18,10 +18,13 @@ equation-requires c κs = search needs
 
 returns-2 : tie.Need-returns-2
 returns-2 c =
+    let at-if1 = c .before .before .before in
+    let after-month = at-if1 .before in
+    let start = after-month .before .before in
     shows-equation
-    (c .before .before .before .before .before .before .args .values .now)
-    (c .before .before .before .before .month .ensures)
-    (c .before .before .before .if1 .left)
+    (start .args .values .now)
+    (after-month .month .ensures)
+    (at-if1 .if1 .left)
     (c .equation .ensures)
 
 pub account-spec : {M : Type 1} → statement M

@@ -57,13 +57,14 @@ returns c =
 
 returns-2 : tie.Need-returns-2
 returns-2 c =
-    let i = c .before .before .before .before .before .before in
+    let after-lines = c .before .before .before in
+    let i = after-lines .before .before .before in
     shows-account
     (i .before .before .before .args .text .now)
     (i .read .last .1 .0)
     (i .read .result)
-    (c .before .before .before .lines .given .0 .0)
-    (c .before .before .before .lines .given .1)
+    (after-lines .lines .given .0 .0)
+    (after-lines .lines .given .1)
     (i .read .ensures)
     (c .account .ensures)
 

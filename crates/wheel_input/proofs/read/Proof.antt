@@ -14,10 +14,12 @@ same-length c = search needs
 
 returns : tie.Need-returns
 returns c =
+    let after-read-table = c .before .before .before in
+    let start = after-read-table .before .before .before .before in
     input-short
-    (c .before .before .before .before .before .before .before .pre)
-    (c .before .before .before .read-table .result)
-    (c .before .before .before .read-table .ensures)
+    (start .pre)
+    (after-read-table .read-table .result)
+    (after-read-table .read-table .ensures)
     (c .if1 .taken)
 
 enum-known-read : tie.Need-enum-known-read
@@ -56,13 +58,14 @@ same-length-4 c = search needs
 
 returns-4 : tie.Need-returns-4
 returns-4 c =
-    let b = c .before .before .before .before .before .before .before in
+    let at-if1 = c .before .before .before .before in
+    let b = at-if1 .before .before .before in
     input-long
     (b .before .before .before .before .pre)
     (b .read-table .result)
     (b .read-table .ensures)
     (λ z. c .if2 .left (sym (shown-refused (c .before .before .read .given .1)) ∙ z))
-    (c .before .before .before .before .if1 .left)
+    (at-if1 .if1 .left)
 
 pub read-spec : {M : Type 1} → statement M
 read-spec =

@@ -21,9 +21,10 @@ put-line-requires c κs = search needs
 
 returns : tie.Need-returns
 returns c =
-    let s = c .before .before .before .before .before .before .before .before in
+    let after-put-word = c .before .before .before .before in
+    let s = after-put-word .before .before .before .before in
     let e = printed-short (length (s .args .values .now)) 0 (s .args .values .now) in
-    shows-two (c .before .before .before .before .put-word .ensures) (c .before .put-line .ensures) (omega (arith, s .pre))
+    shows-two (after-put-word .put-word .ensures) (c .before .put-line .ensures) (omega (arith, s .pre))
 
 pub word-and-line-spec : {M : Type 1} → statement M
 word-and-line-spec =

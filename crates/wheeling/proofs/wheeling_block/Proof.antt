@@ -22,7 +22,9 @@ array-share-prefix-entry : tie.Need-array-share-prefix-entry
 array-share-prefix-entry c = search needs
 
 slice-aggregate-block-on-inputs : tie.Need-slice-aggregate-block-on-inputs
-slice-aggregate-block-on-inputs c = simp length-take (omega (arith, c .before .before .before .before .before .before .read-input .ensures .within, c .before .before .before .before .before .before .read-input .ensures .size))
+slice-aggregate-block-on-inputs c =
+    let after-read-input = c .before .before .before .before .before .before in
+    simp length-take (omega (arith, after-read-input .read-input .ensures .within, after-read-input .read-input .ensures .size))
 
 array-share-prefix-exit : tie.Need-array-share-prefix-exit
 array-share-prefix-exit c = search needs

@@ -22,7 +22,9 @@ array-share-prefix-kw : tie.Need-array-share-prefix-kw
 array-share-prefix-kw c = search needs
 
 slice-aggregate-schedule-on : tie.Need-slice-aggregate-schedule-on
-slice-aggregate-schedule-on c = simp length-take (omega (arith, c .before .before .before .before .before .before .read-input .ensures .within, c .before .before .before .before .before .before .read-input .ensures .size))
+slice-aggregate-schedule-on c =
+    let after-read-input = c .before .before .before .before .before .before in
+    simp length-take (omega (arith, after-read-input .read-input .ensures .within, after-read-input .read-input .ensures .size))
 
 array-share-prefix-ranks : tie.Need-array-share-prefix-ranks
 array-share-prefix-ranks c = search needs

@@ -26,11 +26,15 @@ load-consumers-requires c κs = search needs
 
 returns : tie.Need-returns
 returns c =
+    let after-load-links = c .before .before .before in
+    let after-load-agreed = after-load-links .before in
+    let after-load-counts = after-load-agreed .before in
+    let after-load-terms = after-load-counts .before in
     λ i. record {
-      terms = c .before .before .before .before .before .before .load-terms .ensures i;
-      counts = c .before .before .before .before .before .load-counts .ensures i;
-      agreed = c .before .before .before .before .load-agreed .ensures i;
-      links = c .before .before .before .load-links .ensures i;
+      terms = after-load-terms .load-terms .ensures i;
+      counts = after-load-counts .load-counts .ensures i;
+      agreed = after-load-agreed .load-agreed .ensures i;
+      links = after-load-links .load-links .ensures i;
       schedule = c .before .before .load-schedule .ensures i;
       generators = c .before .load-generators .ensures i;
       consumers = c .load-consumers .ensures i;

@@ -26,11 +26,14 @@ load16-requires-6 c κs = search needs
 
 returns : tie.Need-returns
 returns c =
-    let start = c .before .before .before .before .before .before .before in
+    let after-load163 = c .before .before .before in
+    let after-load162 = after-load163 .before in
+    let after-load16 = after-load162 .before in
+    let start = after-load16 .before .before in
     (λ i. record {
-      metered = c .before .before .before .before .before .load16 .ensures i;
-      setoff = c .before .before .before .before .load162 .ensures i;
-      shortfall = c .before .before .before .load163 .ensures i;
+      metered = after-load16 .load16 .ensures i;
+      setoff = after-load162 .load162 .ensures i;
+      shortfall = after-load163 .load163 .ensures i;
       drawn = c .before .before .load164 .ensures i;
       supplied = c .before .load165 .ensures i;
       outstanding = c .load166 .ensures i;

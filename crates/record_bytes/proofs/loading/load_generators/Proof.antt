@@ -38,15 +38,22 @@ load8-requires-10 c κs = search needs
 
 returns : tie.Need-returns
 returns c =
-    let start = c .before .before .before .before .before .before .before .before .before .before .before in
+    let after-load87 = c .before .before .before in
+    let after-load86 = after-load87 .before in
+    let after-load85 = after-load86 .before in
+    let after-load84 = after-load85 .before in
+    let after-load83 = after-load84 .before in
+    let after-load82 = after-load83 .before in
+    let after-load8 = after-load82 .before in
+    let start = after-load8 .before .before in
     (λ i. record {
-      injected = c .before .before .before .before .before .before .before .before .before .load8 .ensures i;
-      unaccounted = c .before .before .before .before .before .before .before .before .load82 .ensures i;
-      lost = c .before .before .before .before .before .before .before .load83 .ensures i;
-      setoff = c .before .before .before .before .before .before .load84 .ensures i;
-      inadvertent = c .before .before .before .before .before .load85 .ensures i;
-      charge = c .before .before .before .before .load86 .ensures i;
-      drawn = c .before .before .before .load87 .ensures i;
+      injected = after-load8 .load8 .ensures i;
+      unaccounted = after-load82 .load82 .ensures i;
+      lost = after-load83 .load83 .ensures i;
+      setoff = after-load84 .load84 .ensures i;
+      inadvertent = after-load85 .load85 .ensures i;
+      charge = after-load86 .load86 .ensures i;
+      drawn = after-load87 .load87 .ensures i;
       lapsed = c .before .before .load88 .ensures i;
       bank = c .before .load89 .ensures i;
       pending = c .load810 .ensures i;
