@@ -28,13 +28,13 @@ use Rattle.block_rules.specs.Laws.OutputPlaces.{Output, output-back}
 use Rattle.record.specs.Stored.{generatorAt, consumerAt, planOf, figures, storedGenerators, storedConsumers, stored}
 use Rattle.record.specs.Laws.Shape.{Shape}
 use Rattle.record.specs.Laws.SoundLaws.{Facts}
-use Rattle.record.specs.RecordWords.{runLengths, total, words, cut, fromRuns, recordOf}
+use Rattle.record.specs.RecordWords.{runs, runLengths, total, words, cut, fromRuns, recordOf}
 use Rattle.record.specs.declared.Record.{Record}
 use Rattle.record.specs.declared.Counts.{Counts}
 use Rattle.record_layout.specs.Laws.NumbersRaised.{raised, from, raised-run, raised-either, raised-other, list-raised}
 use Rattle.record_layout.specs.Laws.LayoutLaws.{bytes-of-record}
 use Rattle.record_layout.specs.Laws.FigurePlaces.{kind-place}
-use Rattle.record_layout.specs.Laws.RecordKept.{record-shape, read-kept, numbers-low}
+use Rattle.record_layout.specs.Laws.RecordKept.{changed-record, record-shape, numbers-low}
 use Rattle.block_rules.specs.Block.{generatorAfterBlock, consumerAfterBlock, afterBlock, blockLength, entryOf, exitOf}
 use Rattle.block_rules.specs.Laws.BlockLaws.{Enterable}
 use Rattle.block_rules.specs.Laws.BlockSettleable.{settleable}
@@ -151,28 +151,28 @@ module _ (s entry exit out : List ℕ) (f : Facts (bookIn s)) (ok : Enterable en
       raised-other (from unitBlocksAt) _ ws 2 k (λ i a x. omega arith) ∙ sym (place-in 8 (r .agreed .kind) g few ∙ kind-place ws g few)
 
   -- the lists with the counts raised; then those of the generators, and those of the consumers
-  counts-after : List (List ℕ)
-  counts-after =
+  counts-after : List (List ℕ) → List (List ℕ)
+  counts-after xss =
       let t = r .terms in
       let n = r .counts in
-      set (cut runLengths ws) 0 (t .generators ∷ t .consumers ∷ t .rate ∷ t .cycle ∷ n .gone ∷ (n .unitblocks + 1) ∷ (n .monthblocks + 1) ∷ [])
+      set xss 0 (t .generators ∷ t .consumers ∷ t .rate ∷ t .cycle ∷ n .gone ∷ (n .unitblocks + 1) ∷ (n .monthblocks + 1) ∷ [])
 
-  runs-counts : cut runLengths (countsRaised ws) ≡ counts-after
+  runs-counts : cut runLengths (countsRaised ws) ≡ counts-after (cut runLengths ws)
   unfolding counts-after countsRaised recordOf fromRuns runLengths cut total
   runs-counts =
       let at : (λ (i : ℕ). 0 + (unitBlocksAt + i)) ≡ from unitBlocksAt = fun-ext (λ i. zero-add (unitBlocksAt + i)) in
       ap (λ (k : ℕ → ℕ). cut runLengths (raised k 2 (λ i. 1) ws)) (sym at) ∙ raised-run runLengths ws 0 (from unitBlocksAt) 2 (λ i. 1) (λ i l. omega arith) ∙
       ap (set (cut runLengths ws) 0) (counted (take 7 ws) (length-take-le 7 ws (omega (arith, length-decode 8 recordNumbers s))))
 
-  generators-after : List (List ℕ)
-  generators-after =
+  generators-after : List (List ℕ) → List (List ℕ)
+  generators-after xss =
       let x = r .generators in
       let under : ℕ → ℕ = λ g. sum (p .C) (λ c. underdrawn p E c (R c) g) in
       set
       (set
       (set
       (set
-      (set (set counts-after 6 (table 8 (λ g. place 8 (x .injected) g + E g))) 7
+      (set (set (counts-after xss) 6 (table 8 (λ g. place 8 (x .injected) g + E g))) 7
       (table 8 (λ g. place 8 (x .unaccounted) g + unaccounted p g (E g))))
       8
       (table 8 (λ g. place 8 (x .lost) g + sum (p .C) (λ c. lossOf p g (E g) c))))
@@ -183,7 +183,7 @@ module _ (s entry exit out : List ℕ) (f : Facts (bookIn s)) (ok : Enterable en
       15
       (table 8 (λ g. place 8 (x .pending) g + (if deemed p g then under g else 0)))
 
-  runs-generators : cut runLengths (generatorsRaised (p .G) (p .C) entry out (countsRaised ws)) ≡ generators-after
+  runs-generators : cut runLengths (generatorsRaised (p .G) (p .C) entry out (countsRaised ws)) ≡ generators-after (cut runLengths ws)
   unfolding generators-after counts-after generatorsRaised fourRaised recordOf fromRuns runLengths cut total entryOf under
   runs-generators =
       let x = r .generators in
@@ -209,19 +209,19 @@ module _ (s entry exit out : List ℕ) (f : Facts (bookIn s)) (ok : Enterable en
       (z .pending) five refl (due p E R out listed able kind kind-is) (none-due p E R out listed able) in
       ap (cut runLengths) (raised-either (λ g. eqb (kind g) 0) inadvertentAt pendingAt (rowSum (p .C) out (2 * (p .G * p .C))) four (p .G) (omega arith)) ∙ six
 
-  consumers-after : List (List ℕ)
-  consumers-after =
+  consumers-after : List (List ℕ) → List (List ℕ)
+  consumers-after xss =
       let y = r .consumers in
       set
       (set
-      (set (set generators-after 16 (table 16 (λ c. place 16 (y .metered) c + R c))) 17
+      (set (set (generators-after xss) 16 (table 16 (λ c. place 16 (y .metered) c + R c))) 17
       (table 16 (λ c. place 16 (y .setoff) c + sum (p .G) (λ g. setOff p E c (R c) g))))
       18
       (table 16 (λ c. place 16 (y .shortfall) c + sum (p .G) (λ g. shortfall p E c (R c) g))))
       21
       (table 16 (λ c. place 16 (y .outstanding) c + remainder p E c (R c)))
 
-  runs-consumers : cut runLengths (consumersRaised (p .G) (p .C) exit out (generatorsRaised (p .G) (p .C) entry out (countsRaised ws))) ≡ consumers-after
+  runs-consumers : cut runLengths (consumersRaised (p .G) (p .C) exit out (generatorsRaised (p .G) (p .C) entry out (countsRaised ws))) ≡ consumers-after (cut runLengths ws)
   unfolding consumers-after generators-after counts-after consumersRaised recordOf fromRuns runLengths cut total exitOf
   runs-consumers =
       let y = r .consumers in
@@ -239,42 +239,9 @@ module _ (s entry exit out : List ℕ) (f : Facts (bookIn s)) (ok : Enterable en
       list-raised 16 (p .C) _ 21 (y .outstanding) (λ c. getD out (4 * (p .G * p .C) + p .G + c) 0) (λ c. remainder p E c (R c)) few refl (z .outstanding) three refl (listed .left-is) (remainder-beyond p E R able)
 
   -- what is not raised stays
-  kept : r ≡ stored (figures r)
-  kept = sym (read-kept ws (length-decode 8 recordNumbers s))
-
-  from-runs : fromRuns consumers-after ≡ stored (afterBlock (bookIn s) E R)
-  unfolding consumers-after generators-after counts-after recordOf fromRuns runLengths cut stored storedGenerators storedConsumers afterBlock generatorAfterBlock consumerAfterBlock figures planOf generatorAt consumerAt
-  from-runs =
-      let after = stored (afterBlock (bookIn s) E R) in
-      λ i. record {
-        terms = after .terms;
-        counts = after .counts;
-        agreed = kept i .agreed;
-        links = kept i .links;
-        schedule = kept i .schedule;
-        generators =
-            record {
-              injected = after .generators .injected;
-              unaccounted = after .generators .unaccounted;
-              lost = after .generators .lost;
-              setoff = after .generators .setoff;
-              inadvertent = after .generators .inadvertent;
-              charge = kept i .generators .charge;
-              drawn = kept i .generators .drawn;
-              lapsed = kept i .generators .lapsed;
-              bank = kept i .generators .bank;
-              pending = after .generators .pending;
-            };
-        consumers =
-            record {
-              metered = after .consumers .metered;
-              setoff = after .consumers .setoff;
-              shortfall = after .consumers .shortfall;
-              drawn = kept i .consumers .drawn;
-              supplied = kept i .consumers .supplied;
-              outstanding = after .consumers .outstanding;
-            };
-      }
+  from-runs : fromRuns (consumers-after (cut runLengths ws)) ≡ stored (afterBlock (bookIn s) E R)
+  unfolding consumers-after generators-after counts-after runs stored storedGenerators storedConsumers afterBlock generatorAfterBlock consumerAfterBlock figures planOf generatorAt consumerAt
+  from-runs = changed-record ws (length-decode 8 recordNumbers s) consumers-after (afterBlock (bookIn s) E R) refl
 
   record-after : recordOf (consumersRaised (p .G) (p .C) exit out (generatorsRaised (p .G) (p .C) entry out (countsRaised ws))) ≡ stored (afterBlock (bookIn s) E R)
   unfolding recordOf

@@ -19,14 +19,14 @@ use Rattle.record.specs.Book.{Book}
 use Rattle.record.specs.Stored.{generatorAt, consumerAt, planOf, figures, storedGenerators, storedConsumers, stored}
 use Rattle.record.specs.Laws.Shape.{Shape}
 use Rattle.record.specs.Laws.SoundLaws.{Facts}
-use Rattle.record.specs.RecordWords.{runLengths, total, words, cut, fromRuns, recordOf}
+use Rattle.record.specs.RecordWords.{runs, runLengths, total, words, cut, fromRuns, recordOf}
 use Rattle.record.specs.declared.Record.{Record}
 use Rattle.record.specs.declared.Terms.{Terms}
 use Rattle.record.specs.declared.Counts.{Counts}
 use Rattle.record_layout.specs.Laws.NumbersRaised.{set-run, list-raised}
 use Rattle.record_layout.specs.Laws.NumbersReplaced.{list-replaced}
 use Rattle.record_layout.specs.Laws.LayoutLaws.{bytes-of-record}
-use Rattle.record_layout.specs.Laws.RecordKept.{record-shape, read-kept, numbers-low}
+use Rattle.record_layout.specs.Laws.RecordKept.{changed-record, record-shape, numbers-low}
 use Rattle.record_layout.specs.OnBytes.{bookIn}
 use Rattle.record_runs.specs.Laws.Raise.{rowSum, columnSum, Raisable}
 use Rattle.closing_rules.specs.Closing.{charge, drawn, supplied, goneAfter, lapsed, bankAfter, generatorAfterClosing, consumerAfterClosing, afterClosing, closingLength, closingOutput}
@@ -71,10 +71,10 @@ module _ (s out : List ℕ) (f : Facts (bookIn s)) (is : out ≡ closingOutput (
   took c l = sum-cong G _ (λ g. drawn b g c) (λ g k. rw (zero-add, is) (drawn-at b g c k l))
 
   -- the lists with the counts of the next month; then those that are raised, and those that are replaced
-  counts-after : List (List ℕ)
-  counts-after = let t = r .terms in set (cut runLengths ws) 0 (t .generators ∷ t .consumers ∷ t .rate ∷ t .cycle ∷ goneAfter b ∷ r .counts .unitblocks ∷ 0 ∷ [])
+  counts-after : List (List ℕ) → List (List ℕ)
+  counts-after xss = let t = r .terms in set xss 0 (t .generators ∷ t .consumers ∷ t .rate ∷ t .cycle ∷ goneAfter b ∷ r .counts .unitblocks ∷ 0 ∷ [])
 
-  runs-counts : cut runLengths (countsAfter ws) ≡ counts-after
+  runs-counts : cut runLengths (countsAfter ws) ≡ counts-after (cut runLengths ws)
   unfolding counts-after countsAfter recordOf fromRuns runLengths cut total
   runs-counts =
       let gone = goneAfter b in
@@ -82,14 +82,14 @@ module _ (s out : List ℕ) (f : Facts (bookIn s)) (is : out ≡ closingOutput (
       ap (λ (xss : List (List ℕ)). set xss 0 (set (getD xss 0 []) 6 0)) (set-run runLengths ws 0 4 gone (omega arith)) ∙
       ap (set (cut runLengths ws) 0) (counted (take 7 ws) gone (length-take-le 7 ws (omega (arith, length-decode 8 recordNumbers s))))
 
-  totals-after : List (List ℕ)
-  totals-after =
+  totals-after : List (List ℕ) → List (List ℕ)
+  totals-after xss =
       let x = r .generators in
       let y = r .consumers in
       set
       (set
       (set
-      (set (set counts-after 11 (table 8 (λ g. place 8 (x .charge) g + charge b g))) 12
+      (set (set (counts-after xss) 11 (table 8 (λ g. place 8 (x .charge) g + charge b g))) 12
       (table 8 (λ g. place 8 (x .drawn) g + sum C (drawn b g))))
       13
       (table 8 (λ g. place 8 (x .lapsed) g + lapsed b g)))
@@ -98,7 +98,7 @@ module _ (s out : List ℕ) (f : Facts (bookIn s)) (is : out ≡ closingOutput (
       20
       (table 16 (λ c. place 16 (y .supplied) c + supplied b c))
 
-  runs-totals : cut runLengths (totalsRaised G C out (countsAfter ws)) ≡ totals-after
+  runs-totals : cut runLengths (totalsRaised G C out (countsAfter ws)) ≡ totals-after (cut runLengths ws)
   unfolding totals-after counts-after totalsRaised recordOf fromRuns runLengths cut total
   runs-totals =
       let x = r .generators in
@@ -115,10 +115,10 @@ module _ (s out : List ℕ) (f : Facts (bookIn s)) (is : out ≡ closingOutput (
       list-raised 16 C _ 19 (y .drawn) (columnSum G C out 0) (λ c. sum G (λ g. drawn b g c)) few′ refl (shape .consumers .drawn) three refl took (taken-beyond b f) in
       list-raised 16 C _ 20 (y .supplied) (λ c. getD out (G * C + 3 * G + C + c) 0) (supplied b) few′ refl (shape .consumers .supplied) four refl (λ c l. rw is (supplied-at b c l)) (supplied-beyond b f)
 
-  stocks-after : List (List ℕ)
-  stocks-after = set (set (set totals-after 14 (table 8 (bankAfter b))) 15 (table 8 (λ g. 0))) 21 (table 16 (λ c. 0))
+  stocks-after : List (List ℕ) → List (List ℕ)
+  stocks-after xss = set (set (set (totals-after xss) 14 (table 8 (bankAfter b))) 15 (table 8 (λ g. 0))) 21 (table 16 (λ c. 0))
 
-  runs-stocks : cut runLengths (stocksReplaced G C out (totalsRaised G C out (countsAfter ws))) ≡ stocks-after
+  runs-stocks : cut runLengths (stocksReplaced G C out (totalsRaised G C out (countsAfter ws))) ≡ stocks-after (cut runLengths ws)
   unfolding stocks-after totals-after counts-after stocksReplaced recordOf fromRuns runLengths cut total figures generatorAt consumerAt
   runs-stocks =
       let x = r .generators in
@@ -133,42 +133,9 @@ module _ (s out : List ℕ) (f : Facts (bookIn s)) (is : out ≡ closingOutput (
       list-replaced 16 C _ 21 (y .outstanding) (λ c. 0) (λ c. 0) few′ refl (shape .consumers .outstanding) two refl (λ c l. refl) (λ c h l. sym (place-in 16 (y .outstanding) c l) ∙ open-beyond b f c h)
 
   -- what is not changed stays
-  kept : r ≡ stored (figures r)
-  kept = sym (read-kept ws (length-decode 8 recordNumbers s))
-
-  from-runs : fromRuns stocks-after ≡ stored (afterClosing b)
-  unfolding stocks-after totals-after counts-after recordOf fromRuns runLengths cut stored storedGenerators storedConsumers afterClosing generatorAfterClosing consumerAfterClosing figures planOf generatorAt consumerAt
-  from-runs =
-      let after = stored (afterClosing b) in
-      λ i. record {
-        terms = after .terms;
-        counts = after .counts;
-        agreed = kept i .agreed;
-        links = kept i .links;
-        schedule = kept i .schedule;
-        generators =
-            record {
-              injected = kept i .generators .injected;
-              unaccounted = kept i .generators .unaccounted;
-              lost = kept i .generators .lost;
-              setoff = kept i .generators .setoff;
-              inadvertent = kept i .generators .inadvertent;
-              charge = after .generators .charge;
-              drawn = after .generators .drawn;
-              lapsed = after .generators .lapsed;
-              bank = after .generators .bank;
-              pending = after .generators .pending;
-            };
-        consumers =
-            record {
-              metered = kept i .consumers .metered;
-              setoff = kept i .consumers .setoff;
-              shortfall = kept i .consumers .shortfall;
-              drawn = after .consumers .drawn;
-              supplied = after .consumers .supplied;
-              outstanding = after .consumers .outstanding;
-            };
-      }
+  from-runs : fromRuns (stocks-after (cut runLengths ws)) ≡ stored (afterClosing b)
+  unfolding stocks-after totals-after counts-after runs stored storedGenerators storedConsumers afterClosing generatorAfterClosing consumerAfterClosing figures planOf generatorAt consumerAt
+  from-runs = changed-record ws (length-decode 8 recordNumbers s) stocks-after (afterClosing b) refl
 
   record-after : recordOf (stocksReplaced G C out (totalsRaised G C out (countsAfter ws))) ≡ stored (afterClosing b)
   unfolding recordOf

@@ -70,9 +70,9 @@ module _ (b : Book) where
   at-stored : (f : ℕ → ℕ) (g : ℕ) → g < 8 → place 8 (table 8 f) g ≡ f g
   at-stored f g h = place-in 8 (table 8 f) g h ∙ getD-table 8 f g 0 h
 
-  from-runs : fromRuns (runs (stored b)) ≡ stored b
+  pub record-of-runs : fromRuns (runs (stored b)) ≡ stored b
   unfolding fromRuns runs stored agreedOf
-  from-runs =
+  record-of-runs =
       λ i. record {
         terms = stored b .terms;
         counts = stored b .counts;
@@ -90,4 +90,4 @@ module _ (b : Book) where
 
   pub record-of-words : recordOf (words (stored b)) ≡ stored b
   unfolding recordOf words
-  record-of-words = ap fromRuns (cut-joined runLengths (runs (stored b)) stored-runs) ∙ from-runs
+  record-of-words = ap fromRuns (cut-joined runLengths (runs (stored b)) stored-runs) ∙ record-of-runs

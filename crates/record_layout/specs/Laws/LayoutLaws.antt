@@ -64,7 +64,7 @@ module _ (a : List ℕ) (e : length a ≡ 24) where
       sym (is-table 0 24 _ a e (λ k l. sym (agreed-place (k / 3) (k % 3) (omega arith) (omega arith) ∙ ap (λ (i : ℕ). getD a i 0) (omega arith))))
 
 module _ (ws : List ℕ) (e : length ws ≡ recordNumbers) where
-  runs-back : runs (recordOf ws) ≡ cut runLengths ws
+  pub runs-back : runs (recordOf ws) ≡ cut runLengths ws
   unfolding runs recordOf fromRuns cut runLengths total column
   runs-back =
       let size = run-length runLengths ws e in

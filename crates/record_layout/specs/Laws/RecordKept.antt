@@ -1,6 +1,6 @@
 -- A record read from its numbers is stored again as it stands. Assumes nothing.
 use Prim.Native.Nat.{ℕ, _≤_, _<_}
-use mathlib.Core.Path.{_≡_, ap, _∙_}
+use mathlib.Core.Path.{_≡_, sym, ap, _∙_}
 use mathlib.Core.List.{List, []}
 use native.Mathlib.Omega.{arith}
 use lib.ListN.{length, getD}
@@ -8,9 +8,11 @@ use Rattle.lists.specs.Laws.TablesLaws.{length-table}
 use Rattle.record.specs.Stored.{figures, stored}
 use Rattle.record.specs.Laws.Shape.{Shape, record-kept}
 use Rattle.record.specs.Laws.SoundLaws.{Facts}
-use Rattle.record.specs.RecordWords.{runLengths, total, words, cut, fromRuns, recordOf}
+use Rattle.record.specs.RecordWords.{runs, runLengths, total, words, cut, fromRuns, recordOf}
+use Rattle.record.specs.Laws.RecordWordsLaws.{record-of-runs}
+use Rattle.record.specs.Book.{Book}
 use Rattle.energy.specs.Limits.{mostFigure}
-use Rattle.record_layout.specs.Laws.LayoutLaws.{run-length, words-of-record, words-low}
+use Rattle.record_layout.specs.Laws.LayoutLaws.{runs-back, run-length, words-of-record, words-low}
 use Rattle.record_places.specs.RecordSize.{recordNumbers}
 
 module _ (ws : List ℕ) (e : length ws ≡ recordNumbers) where
@@ -48,6 +50,12 @@ module _ (ws : List ℕ) (e : length ws ≡ recordNumbers) where
 
   pub read-kept : stored (figures (recordOf ws)) ≡ recordOf ws
   read-kept = record-kept (recordOf ws) record-shape
+
+  -- Where some of its runs are replaced so that they are those of another book's record, it becomes that record.
+  pub changed-record : (change : List (List ℕ) → List (List ℕ)) (after : Book) → change (runs (stored (figures (recordOf ws)))) ≡ runs (stored after) →
+      fromRuns (change (cut runLengths ws)) ≡ stored after
+  changed-record change after same =
+      ap (λ (xss : List (List ℕ)). fromRuns (change xss)) (sym (runs-back ws e) ∙ ap runs (sym read-kept)) ∙ ap fromRuns same ∙ record-of-runs after
 
   pub numbers-low : Facts (figures (recordOf ws)) → (i : ℕ) → getD ws i 0 ≤ mostFigure
   numbers-low f i =
