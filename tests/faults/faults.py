@@ -74,11 +74,13 @@ FAULTS = {
         "reading limit one low": ("*::MOST_READING < ", "199_999_999 < "),
         "reading limit one high": ("*::MOST_READING < ", "200_000_001 < "),
         "refusal 12 before 11":
-            ("MOST_UNIT_BLOCKS <= counts.blocks, 12, 0)",
-             "MOST_MONTH_BLOCKS <= counts.month, 11, 0)",
-             "MOST_MONTH_BLOCKS <= counts.month, 11, unit_full)",
-             "MOST_UNIT_BLOCKS <= counts.blocks, 12, unit_full)"),
-        "month blocks not raised": ("add_at(s, *::MONTH, 1);", "add_at(s, *::MONTH, 0);"),
+            ("MOST_UNIT_BLOCKS <= counts.unitblocks, 12, 0)",
+             "MOST_MONTH_BLOCKS <= counts.monthblocks, 11, 0)",
+             "MOST_MONTH_BLOCKS <= counts.monthblocks,\n            11,",
+             "MOST_UNIT_BLOCKS <= counts.unitblocks,\n            12,"),
+        "month blocks not raised":
+            ("put_at(s, *::MONTH_BLOCKS, counts.monthblocks + 1);",
+             "put_at(s, *::MONTH_BLOCKS, counts.monthblocks);"),
         "metered by remainder":
             ("raise_readings(s, *::METERED, exit);",
              "raise_numbers(s, *::METERED, out, 4 * size + n, m);"),
@@ -112,10 +114,12 @@ FAULTS = {
         "months gone not reset": ("{ 0 } else { gone + 1 }", "{ gone } else { gone + 1 }"),
     },
     "sound": {
-        "month blocks over unit blocks allowed": ("(n.month <= n.blocks)", "(n.month <= n.month)"),
+        "month blocks over unit blocks allowed":
+            ("(n.monthblocks <= n.unitblocks)", "(n.monthblocks <= n.monthblocks)"),
         "gone equal to the cycle allowed": ("(n.gone < t.cycle)", "(n.gone <= t.cycle)"),
         "full month refused":
-            ("(n.month <= *::MOST_MONTH_BLOCKS)", "(n.month < *::MOST_MONTH_BLOCKS)"),
+            ("(n.monthblocks <= *::MOST_MONTH_BLOCKS)",
+             "(n.monthblocks < *::MOST_MONTH_BLOCKS)"),
         "full unit refused":
             ("MOST_UNIT_BLOCKS: u64 = 10_000_000", "MOST_UNIT_BLOCKS: u64 = 9_999_999"),
         "totals by age one low": ("(x.injected <= most)", "(x.injected <= most - blocks)"),
@@ -139,15 +143,16 @@ FAULTS = {
             ("s[b + 6] = (w6 % 256) as u8;", "s[b + 6] = (w7 % 256) as u8;"),
         "eighth byte not read": ("(b7 as u64) * 72_057_594_037_927_936", "(b7 as u64) * 0"),
         "link and loss swapped when stored":
-            ("store128(link, s, *::LINK);", "store128(link, s, *::LOSS);",
-             "store128(loss, s, *::LOSS);", "store128(loss, s, *::LINK);"),
+            ("store_run(&t.link, s, *::LINK);", "store_run(&t.link, s, *::LOSS);",
+             "store_run(&t.loss, s, *::LOSS);", "store_run(&t.loss, s, *::LINK);"),
         "months gone written one place late": ("GONE: usize = 4;", "GONE: usize = 5;"),
         "contracted loaded as installed":
             ("let installed = *::column(rows, 1);", "let installed = *::column(rows, 2);"),
         "bank loaded from pending":
             ("let held = *::load8(s, *::BANK);", "let held = *::load8(s, *::PENDING);"),
         "consumers stored one place early":
-            ("store16(supplied, s, *::SUPPLIED);", "store16(supplied, s, *::SUPPLIED - 1);"),
+            ("store_run(&t.supplied, s, *::SUPPLIED);",
+             "store_run(&t.supplied, s, *::SUPPLIED - 1);"),
     },
     "reader: sizes, names": {
         "G = 9 allowed": ("if 8 < g {", "if 9 < g {"),
