@@ -1,11 +1,11 @@
 // Rule 1 of a block for one generator, and rules 3 and 4 for one pair, on numbers.
 ghost use mathlib.Core.Path.{_≡_};
 ghost use Prim.Native.Nat.{_≤_, _<_};
+ghost use lib.ListN.{getD};
 ghost use Rattle.lists.specs.Sums.{sum};
 ghost use Rattle.lists.specs.Pairs.{place};
 ghost use Rattle.energy.specs.Limits.{mostCapacity};
 ghost use Rattle.block_rules.specs.Delivery.{countedOf};
-ghost use lib.ListN.{getD};
 ghost use Rattle.energy.specs.Energy.{afterLoss};
 ghost use Rattle.energy.specs.Laws.Portionable.{Portionable};
 ghost use Rattle.block_figures.specs.Laws.OnePair.{gapOf, PairReady, PairDone};

@@ -1,10 +1,10 @@
 // The tests of soundness at one place: of what is agreed and scheduled, of the counts, of a generator's and a consumer's totals. Every number of
 // the record is arbitrary, so a term is capped before it is added; tests are joined by & and |, which do not branch.
 ghost use mathlib.Core.Path.{_≡_};
+ghost use Prim.Native.Nat.{_≤_};
 ghost use Rattle.lists.specs.Tests.{within};
 ghost use Rattle.record.specs.Sound.{agreedSound, pairSound, generatorSound, consumerSound};
 ghost use Rattle.sound_items.specs.Laws.SoundTests.{countsTest};
-ghost use Prim.Native.Nat.{_≤_};
 ghost use Rattle.energy.specs.Limits.{mostUnitBlocks};
 ghost use Rattle.sound_items.specs.Laws.Capped.{Clipped};
 use record::ConsumerTerms;

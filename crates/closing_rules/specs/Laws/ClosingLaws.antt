@@ -89,11 +89,11 @@ module _ (b : Book) where
 
   gone-less : Facts b → goneAfter b < b .cycle
   unfolding goneAfter lapses cycleEnds
-  gone-less f = go (eqb (b .gone + 1) (b .cycle)) refl
+  gone-less f = go (lapses b) refl
     where
-      go : (t : Bool) → eqb (b .gone + 1) (b .cycle) ≡ t → (if t then 0 else b .gone + 1) < b .cycle
+      go : (t : Bool) → lapses b ≡ t → (if t then 0 else b .gone + 1) < b .cycle
       go true e = omega (arith, f .counts .cycle-low)
-      go false e = omega (arith, f .counts .gone-high, eqb-false (b .gone + 1) (b .cycle) e)
+      go false e = omega (arith, f .counts .gone-high, eqb-false)
 
   generator : Facts b → (g : ℕ) → GeneratorFacts (b .unitblocks) (ltb g (b .plan .G)) (generatorAfterClosing b g)
   unfolding generatorAfterClosing takenUp

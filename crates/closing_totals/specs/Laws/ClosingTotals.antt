@@ -14,11 +14,11 @@ use Rattle.record_layout.specs.Laws.NumbersRaised.{raised, from}
 use Rattle.record_layout.specs.Laws.NumbersReplaced.{replaced}
 use Rattle.record_runs.specs.Laws.Raise.{rowSum, columnSum, OutputLists}
 use Rattle.closing_rules.specs.Closing.{goneAfter, closingOutput}
-use Rattle.record_places.specs.Laws.Places.{goneAt, chargeAt, generatorDrawnAt, lapsedAt, bankAt, pendingAt, consumerDrawnAt, suppliedAt, outstandingAt}
+use Rattle.record_places.specs.Laws.Places.{goneAt, monthBlocksAt, chargeAt, generatorDrawnAt, lapsedAt, bankAt, pendingAt, consumerDrawnAt, suppliedAt, outstandingAt}
 
 -- the months gone, and no block in the month
 unfoldable pub countsAfter : List ℕ → List ℕ
-countsAfter ws = set (set ws goneAt (goneAfter (figures (recordOf ws)))) 6 0
+countsAfter ws = set (set ws goneAt (goneAfter (figures (recordOf ws)))) monthBlocksAt 0
 
 -- for n generators and m consumers, by the output: drawn pairs; charge, lapsed and bank by generator; open and supplied by consumer
 module _ (n m : ℕ) (out ws : List ℕ) where

@@ -9,6 +9,28 @@ use Rattle.agreement_rules.specs.Laws.AgreedPartsLaws.{opened-parts}
 use Rattle.opening.proofs.store_opened.Statement.{statement}
 use Rattle.opening.proofs.store_opened.Tie as tie
 
+-- the call that stored a part, seen from the one that stored the next; where the function started, seen from the first
+abbrev start-of : tie.After-store-terms → tie.Start
+start-of c = c .before .before .before .before .before .before .before
+
+abbrev terms-of : tie.After-store-counts → tie.After-store-terms
+terms-of c = c .before .before .before .before .before
+
+abbrev counts-of : tie.After-store-agreed → tie.After-store-counts
+counts-of c = c .before .before .before .before .before
+
+abbrev agreed-of : tie.After-store-links → tie.After-store-agreed
+agreed-of c = c .before .before .before .before .before
+
+abbrev links-of : tie.After-store-schedule → tie.After-store-links
+links-of c = c .before .before .before .before .before
+
+abbrev schedule-of : tie.After-store-generators → tie.After-store-schedule
+schedule-of c = c .before .before .before .before .before
+
+abbrev generators-of : tie.After-store-consumers → tie.After-store-generators
+generators-of c = c .before .before .before .before .before
+
 wide-requires : tie.Need-wide-requires
 wide-requires c κs = search needs
 
@@ -38,9 +60,7 @@ store-links-requires c κs = search needs
 
 first-schedule-requires : tie.Need-first-schedule-requires
 first-schedule-requires c κs =
-    let c4 = c .before .before in
-    let c2 = c4 .before .before .before .before .before .before .before .before .before .before in
-    let permitted = c2 .before .before .before .before .before .before .before .before .before .before .before .before .pre .0 in
+    let permitted = start-of (terms-of (counts-of (agreed-of (c .before .before)))) .pre .0 in
     (permitted .G-high, permitted .C-high)
 
 store-schedule-requires : tie.Need-store-schedule-requires
@@ -60,21 +80,20 @@ store-consumers-requires c κs = search needs
 
 same-length : tie.Need-same-length
 same-length c =
-    let c7 = c .before .before in
-    let c4 = c7 .before .before .before .before .before .before .before .before .before .before .before .before .before .before .before in
-    let c1 = c4 .before .before .before .before .before .before .before .before .before .before .before .before .before .before .before in
-    c7 .store-consumers .ensures .size ∙ sym (c1 .before .before .before .before .before .before .before .pre .1)
+    let stored = c .before .before in
+    let links = links-of (schedule-of (generators-of stored)) in
+    stored .store-consumers .ensures .size ∙ sym (start-of (terms-of (counts-of (agreed-of links))) .pre .1)
 
 returns : tie.Need-returns
 returns c =
     let c7 = c .before .before in
-    let c6 = c7 .before .before .before .before .before in
-    let c5 = c6 .before .before .before .before .before in
-    let c4 = c5 .before .before .before .before .before in
-    let c3 = c4 .before .before .before .before .before in
-    let c2 = c3 .before .before .before .before .before in
-    let c1 = c2 .before .before .before .before .before in
-    let asked = c1 .before .before .before .before .before .before .before .args in
+    let c6 = generators-of c7 in
+    let c5 = schedule-of c6 in
+    let c4 = links-of c5 in
+    let c3 = agreed-of c4 in
+    let c2 = counts-of c3 in
+    let c1 = terms-of c2 in
+    let asked = start-of c1 .args in
     let wide = c1 .before .before .before .wide in
     let wide2 = c1 .before .before .wide2 in
     let wide3 = c2 .before .before .wide3 in
