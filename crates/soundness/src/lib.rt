@@ -1,4 +1,4 @@
-// The test of soundness on the record's bytes, each number read where it stands; crates sound_items and sound_totals test what was read.
+// The test of soundness on the record's bytes, each number read where it stands; crate sound_items tests what was read.
 // Tests are joined by & and |, which do not branch.
 ghost use mathlib.Core.Path.{_≡_};
 ghost use mathlib.Core.Bool.{true, false};
