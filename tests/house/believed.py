@@ -17,10 +17,12 @@ REPOSITORY = Path(__file__).resolve().parents[2]
 CRATES = REPOSITORY / "crates"
 ASSURANCE = REPOSITORY / "docs" / "ASSURANCE.md"
 
-# The public calls in Rattle, beside those that are C calls, and the definitions that say demand 3.
-CALLS = ["opening::opening", "schedule::schedule", "block::block", "closing::close", "soundness::is_sound_record", "sharing::share",
-         "table::read_table", "wheel::report"]
+# What is promised and claimed, in the order in which it is best read: the public calls in Rattle, the C calls, and the two definitions that
+# say demand 3.
+C_CALLS = "the C calls"
 CLAIMS = ["Claim", "ByteClaim"]
+STARTS = ["opening::opening", "schedule::schedule", "block::block", "closing::close", "soundness::is_sound_record", "Claim", C_CALLS, "ByteClaim",
+          "sharing::share", "table::read_table", "wheel::report"]
 
 FUNCTION = re.compile(r'^(?:pub )?(extern "C" )?fn (\w+)\(.*?^\{', re.S | re.M)
 IMPORT = re.compile(r"^\s*(?:ghost )?use Rattle·(\w+?)(?:·specs)?\.specs\.((?:Laws\.)?\w+)(?:\.\{([^}]*)\})?", re.M)
@@ -42,47 +44,57 @@ def imports(path):
             yield crate, module, [name.strip() for name in names.split(",")]
 
 
-def public_promises():
-    """The source file and the contract of each public call. A public call asks nothing of its caller."""
-    missing = set(CALLS)
+def promises():
+    """{public call, or C_CALLS: [(source file, what it ensures)]}. A public call asks nothing of its caller."""
+    found = {}
     for source in sorted(CRATES.glob("*/src/*.rt")):
         crate = source.relative_to(CRATES).parts[0]
         for match in FUNCTION.finditer(source.read_text()):
-            call = f"{crate}::{match.group(2)}"
-            if not match.group(1) and call not in missing:
+            call = C_CALLS if match.group(1) else f"{crate}::{match.group(2)}"
+            if call not in STARTS:
                 continue
-            missing.discard(call)
             if "\n    requires " in match.group(0):
-                raise Misplaced(f"the public call {call} has a requirement")
-            yield source, match.group(0).partition("ensures")[2]
-    if missing:
-        raise Misplaced(f"no such public call: {', '.join(sorted(missing))}")
+                raise Misplaced(f"the public call {crate}::{match.group(2)} has a requirement")
+            found.setdefault(call, []).append((source, match.group(0).partition("ensures")[2]))
+    return found
 
 
-def first_believed():
-    """The files that the promises name, and those that define the claims."""
-    for source, promise in public_promises():
-        words = set(re.findall(r"[^\s()\[\]{};,⌜⌝]+", promise))
-        for crate, module, names in imports(source):
-            if words & set(names):
-                yield crate, module
-    for claim in CLAIMS:
-        defined = [path for path in sorted(CRATES.glob("*/specs/**/*.antt"))
-                   if re.search(rf"^\s*(?:\w+ )*pub (?:record )?{claim} ", path.read_text(), re.M)]
-        if len(defined) != 1:
-            raise Misplaced(f"the claim {claim} is defined in {len(defined)} files")
-        inside = defined[0].relative_to(CRATES).parts
-        yield inside[0], ".".join(inside[2:])[: -len(".antt")]
+def named_by(source, promise):
+    """The files that a promise names."""
+    words = set(re.findall(r"[^\s()\[\]{};,⌜⌝]+", promise))
+    return [(crate, module) for crate, module, names in imports(source) if words & set(names)]
+
+
+def defining(claim):
+    """The file that defines a claim."""
+    defined = [path for path in sorted(CRATES.glob("*/specs/**/*.antt"))
+               if re.search(rf"^\s*(?:\w+ )*pub (?:record )?{claim} ", path.read_text(), re.M)]
+    if len(defined) != 1:
+        raise Misplaced(f"the claim {claim} is defined in {len(defined)} files")
+    inside = defined[0].relative_to(CRATES).parts
+    return inside[0], ".".join(inside[2:])[: -len(".antt")]
 
 
 def believed():
-    seen, todo = set(), list(first_believed())
-    while todo:
-        file = todo.pop()
-        if file not in seen:
-            seen.add(file)
-            todo += [(crate, module) for crate, module, _ in imports(spec_path(*file))]
-    return seen
+    """The files to believe, each after those that it imports."""
+    found, ordered = promises(), []
+
+    def visit(file):
+        if file not in ordered:
+            for crate, module, _ in imports(spec_path(*file)):
+                visit((crate, module))
+            ordered.append(file)
+
+    for start in STARTS:
+        if start in CLAIMS:
+            visit(defining(start))
+        elif start not in found:
+            raise Misplaced(f"no such public call: {start}")
+        else:
+            for source, promise in found[start]:
+                for file in named_by(source, promise):
+                    visit(file)
+    return ordered
 
 
 def laws_in(path):
@@ -101,26 +113,9 @@ def laws_in(path):
         holders.append((indentation, bool(re.match(r"(?:pub )?(?:record|data) ", text)) or " = " in f" {text} " or text.endswith("=")))
 
 
-def reading_order(files):
-    """Each file after those that it imports; crates as crates.txt has them."""
-    crates = re.findall(r"^(\w+):", (REPOSITORY / "crates.txt").read_text(), re.M)
-    ordered = []
-
-    def visit(file):
-        if file in ordered:
-            return
-        for crate, module, _ in imports(spec_path(*file)):
-            visit((crate, module))
-        ordered.append(file)
-
-    for file in sorted(files, key=lambda file: (crates.index(file[0]), file[1])):
-        visit(file)
-    return sorted(ordered, key=lambda file: crates.index(file[0]))
-
-
 def table(files):
     rows, total = [], 0
-    for crate, module in reading_order(files):
+    for crate, module in files:
         text = spec_path(crate, module).read_text()
         said = " ".join(line[2:].strip() for line in re.match(r"(?:--.*\n)*", text).group(0).split("\n"))
         count = text.count("\n")

@@ -34,10 +34,6 @@ unfoldable pub total : List ℕ → ℕ
 total [] = 0
 total (n ∷ ns) = n + total ns
 
--- recordNumbers of crate record_places: the law words-count
-unfoldable pub wordCount : ℕ
-wordCount = total runLengths
-
 unfoldable pub words : Record → List ℕ
 words r = joined (runs r)
 

@@ -117,7 +117,7 @@ module _ (s entry exit out : List ℕ) (f : Facts (bookIn s)) (ok : Enterable en
   ws = wordsIn s
 
   abbrev r : Record
-  r = recordOf ws
+  r = recordIn s
 
   abbrev p : Plan
   p = bookIn s .plan

@@ -27,7 +27,7 @@ use Rattle.record_layout.specs.Laws.NumbersRaised.{set-run, list-raised}
 use Rattle.record_layout.specs.Laws.NumbersReplaced.{list-replaced}
 use Rattle.record_layout.specs.Laws.LayoutLaws.{bytes-of-record}
 use Rattle.record_layout.specs.Laws.RecordKept.{changed-record, record-shape, numbers-low}
-use Rattle.record_layout.specs.OnBytes.{bookIn}
+use Rattle.record_layout.specs.OnBytes.{recordIn, bookIn}
 use Rattle.record_runs.specs.Laws.Raise.{rowSum, columnSum, Raisable}
 use Rattle.closing_rules.specs.Closing.{charge, drawn, supplied, goneAfter, lapsed, bankAfter, generatorAfterClosing, consumerAfterClosing, afterClosing, closingLength, closingOutput}
 use Rattle.closing_rules.specs.Laws.ClosingOutput.{closing-length, drawn-at, charge-at, lapsed-at, bank-at, supplied-at}
@@ -50,7 +50,7 @@ module _ (s out : List ℕ) (f : Facts (bookIn s)) (is : out ≡ closingOutput (
   ws = wordsIn s
 
   abbrev r : Record
-  r = recordOf ws
+  r = recordIn s
 
   abbrev b : Book
   b = bookIn s

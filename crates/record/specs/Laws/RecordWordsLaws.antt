@@ -11,12 +11,13 @@ use Rattle.lists.specs.Pairs.{place, cell, pairs, joined}
 use Rattle.lists.specs.Laws.PairsLaws.{length-pairs, getD-pairs, cell-in, place-in}
 use Rattle.record.specs.Book.{Book}
 use Rattle.record.specs.Stored.{stored, storedGenerators, storedConsumers}
-use Rattle.record.specs.RecordWords.{agreedOf, runs, runLengths, total, wordCount, words, cut, fromRuns, recordOf}
+use Rattle.record.specs.RecordWords.{agreedOf, runs, runLengths, total, words, cut, fromRuns, recordOf}
 use Rattle.record_places.specs.RecordSize.{recordNumbers}
 use Rattle.record_places.specs.Laws.Places.{generatorCountAt, agreedAt, linkAt, lossAt, kwAt, rankAt, injectedAt, unaccountedAt, lostAt, generatorSetOffAt, inadvertentAt, chargeAt, generatorDrawnAt, lapsedAt, bankAt, pendingAt, meteredAt, consumerSetOffAt, shortfallAt, consumerDrawnAt, suppliedAt, outstandingAt}
 
-pub words-count : wordCount ≡ recordNumbers
-unfolding wordCount total runLengths
+-- the record's runs have as many numbers as its size says
+pub words-count : total runLengths ≡ recordNumbers
+unfolding total runLengths
 words-count = refl
 
 -- where runs of these lengths start, the first at `at`
@@ -58,9 +59,9 @@ module _ (b : Book) where
   unfolding runLengths runs stored storedGenerators storedConsumers
   stored-runs = (refl, (length-pairs 8 3 _, (length-pairs 8 16 _, (length-pairs 8 16 _, (length-pairs 8 16 _, (length-pairs 8 16 _, (length-table 8 _, (length-table 8 _, (length-table 8 _, (length-table 8 _, (length-table 8 _, (length-table 8 _, (length-table 8 _, (length-table 8 _, (length-table 8 _, (length-table 8 _, (length-table 16 _, (length-table 16 _, (length-table 16 _, (length-table 16 _, (length-table 16 _, (length-table 16 _, tt))))))))))))))))))))))
 
-  pub length-words : length (words (stored b)) ≡ wordCount
-  unfolding words wordCount
-  length-words = length-runs runLengths (runs (stored b)) stored-runs
+  pub length-words : length (words (stored b)) ≡ recordNumbers
+  unfolding words
+  length-words = length-runs runLengths (runs (stored b)) stored-runs ∙ words-count
 
   -- one of the three numbers of a generator, read back
   read-agreed : (k : ℕ) (f : ℕ → ℕ) → k < 3 → ((g : ℕ) → g < 8 → agreedOf (stored b .agreed) g k ≡ f g) → table 8 (λ g. cell 8 3 (pairs 8 3 (agreedOf (stored b .agreed))) g k) ≡ table 8 f

@@ -16,7 +16,7 @@ use Rattle.record.specs.Laws.Shape.{Shape, record-kept}
 use Rattle.record.specs.Stored.{stored, storedGenerators, storedConsumers, figures}
 use Rattle.energy.specs.Limits.{mostFigure}
 use Rattle.record.specs.Laws.SoundLaws.{Facts, injected-most, metered-most, kw-most}
-use Rattle.record.specs.RecordWords.{agreedOf, runs, runLengths, total, wordCount, words, cut, fromRuns, recordOf}
+use Rattle.record.specs.RecordWords.{agreedOf, runs, runLengths, total, words, cut, fromRuns, recordOf}
 use Rattle.record.specs.declared.Record.{Record}
 use Rattle.record.specs.declared.GeneratorTerms.{GeneratorTerms}
 use Rattle.record.specs.declared.ConsumerTerms.{ConsumerTerms}
@@ -71,7 +71,7 @@ module _ (ws : List ℕ) (e : length ws ≡ recordNumbers) where
       λ i. head-back (take 7 ws) (size 0 (omega arith)) i ∷ agreed-back (take 24 (drop 7 ws)) (size 1 (omega arith)) i ∷ drop 2 (cut runLengths ws)
 
   pub words-of-record : words (recordOf ws) ≡ ws
-  unfolding words wordCount
+  unfolding words
   words-of-record = ap joined runs-back ∙ joined-cut runLengths ws (e ∙ sym words-count)
 
 -- the record's bytes, whatever they are, are the bytes of the record read from them
@@ -81,7 +81,7 @@ bytes-of-record s e h = ap (encode 8) (words-of-record (wordsIn s) (length-decod
 -- ---- a stored record read back
 
 pub bytes-of-stored : (b : Book) → length (encode 8 (words (stored b))) ≡ recordBytes
-bytes-of-stored b = omega (arith, length-encode 8 (words (stored b)), length-words b, words-count)
+bytes-of-stored b = omega (arith, length-encode 8 (words (stored b)), length-words b)
 
 -- every number of every list is below b
 data AllBelow (b : ℕ) : List (List ℕ) → Type 0 where
@@ -160,12 +160,12 @@ module _ (b : Book) (f : Facts b) where
   pub record-of-bytes : recordIn (encode 8 (words (stored b))) ≡ stored b
   record-of-bytes =
       let low : Below (256 ^ 8) (words (stored b)) = λ i. omega (arith, words-low i) in
-      let size : length (words (stored b)) ≡ recordNumbers = length-words b ∙ words-count in
+      let size : length (words (stored b)) ≡ recordNumbers = length-words b in
       ap recordOf (rw size at (decode-encode 8 (words (stored b)) low)) ∙ record-of-words b
 
 -- a record of the right shape whose numbers have 64 bits is read back from its bytes
 pub read-back : (r : Record) → Shape r → Below (256 ^ 8) (words r) → recordIn (encode 8 (words r)) ≡ r
 read-back r s low =
-    let size : length (words r) ≡ recordNumbers = rw (record-kept r s) at (length-words (figures r) ∙ words-count) in
+    let size : length (words r) ≡ recordNumbers = rw (record-kept r s) at (length-words (figures r)) in
     let back : recordOf (words r) ≡ r = rw (record-kept r s) at (record-of-words (figures r)) in
     ap recordOf (rw size at (decode-encode 8 (words r) low)) ∙ back

@@ -51,7 +51,7 @@ module _ (s kws ranks : List ℕ) where
   ws = wordsIn s
 
   abbrev r : Record
-  r = recordOf ws
+  r = recordIn s
 
   -- the number of a schedule on a sound record, by what was read of it
   pub number-read : {t : Terms} {a : Agreed} {link : List ℕ} {x : ℕ} → sound (figures r) ≡ true → t ≡ r .terms → a ≡ r .agreed → link ≡ run ws 128 linkAt →
