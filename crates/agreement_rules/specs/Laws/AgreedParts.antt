@@ -1,4 +1,4 @@
--- The parts of a record that opening and schedule make of the lists given. Assumes nothing.
+-- The parts of a record that opening makes of the lists given. Assumes nothing.
 use Prim.Native.Nat.{ℕ, _*_}
 use mathlib.Core.Bool.{_&&_}
 use mathlib.Core.List.{List}
@@ -10,7 +10,6 @@ use Rattle.lists.specs.Pairs.{cell, pairs}
 use Rattle.record.specs.declared.Agreed.{Agreed}
 use Rattle.record.specs.declared.Links.{Links}
 use Rattle.record.specs.declared.Schedule.{Schedule}
-use Rattle.record.specs.declared.Record.{Record}
 
 unfoldable pub agreedFrom : ℕ → List ℕ → Agreed
 agreedFrom n xs =
@@ -22,19 +21,3 @@ linksFrom n m xs = record { link = pairs 8 16 (cell n m (take (n * m) xs)); loss
 -- no kW, and every rank 1
 unfoldable pub firstSchedule : ℕ → ℕ → Schedule
 firstSchedule n m = record { kw = pairs 8 16 (λ g c. 0); rank = pairs 8 16 (λ g c. if ltb g n && ltb c m then 1 else 0) }
-
-unfoldable pub scheduleFrom : ℕ → ℕ → List ℕ → List ℕ → Schedule
-scheduleFrom n m kws ranks = record { kw = pairs 8 16 (cell n m kws); rank = pairs 8 16 (cell n m ranks) }
-
--- the record with another schedule
-unfoldable pub withSchedule : Record → Schedule → Record
-withSchedule r s =
-    record {
-      terms = r .terms;
-      counts = r .counts;
-      agreed = r .agreed;
-      links = r .links;
-      schedule = s;
-      generators = r .generators;
-      consumers = r .consumers;
-    }

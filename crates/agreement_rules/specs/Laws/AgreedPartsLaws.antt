@@ -7,8 +7,7 @@ use borrow.Author.Tests.{eq-eqb, ne-eqb}
 use Rattle.lists.specs.Tables.{table}
 use Rattle.lists.specs.Pairs.{cell, pairs}
 use Rattle.record.specs.Book.{noInjection, noConsumption}
-use Rattle.record.specs.Stored.{planOf, figures, storedGenerators, storedConsumers, stored, zeros}
-use Rattle.record.specs.Laws.Shape.{Shape, table-place, pairs-cell, generators-kept, consumers-kept}
+use Rattle.record.specs.Stored.{storedGenerators, storedConsumers, stored, zeros}
 use Rattle.record.specs.declared.Agreed.{Agreed}
 use Rattle.record.specs.declared.Links.{Links}
 use Rattle.record.specs.declared.Schedule.{Schedule}
@@ -16,9 +15,8 @@ use Rattle.record.specs.declared.Generators.{Generators}
 use Rattle.record.specs.declared.Consumers.{Consumers}
 use Rattle.record.specs.declared.Record.{Record}
 use Rattle.agreement_rules.specs.Opening.{Opening, asked, kindOf, installedOf, contractedOf, linkOf, rateOfLoss, openingRefusal, opened, Opened}
-use Rattle.agreement_rules.specs.Schedule.{newKw, newRank, afterSchedule}
 use Rattle.agreement_rules.specs.Laws.AgreedReadingLaws.{cell-drop-none, cell-take, cell-ones}
-use Rattle.agreement_rules.specs.Laws.AgreedParts.{agreedFrom, linksFrom, firstSchedule, scheduleFrom, withSchedule}
+use Rattle.agreement_rules.specs.Laws.AgreedParts.{agreedFrom, linksFrom, firstSchedule}
 
 -- ---- opening
 
@@ -90,29 +88,3 @@ opening-accepted {o} {r} z e = record { number-is = sym z; record-is = rw (eq-eq
 
 pub opening-refused : {o : Opening} {n : ℕ} {r : Record} → (n ≡ 0 → ⊥) → n ≡ openingRefusal o → r ≡ zeros → Opened o n r
 opening-refused {o} {n} {r} z e q = record { number-is = e; record-is = rw (ne-eqb (openingRefusal o) 0 (λ y. z (e ∙ y))) q }
-
--- ---- schedule
-
-module _ (r : Record) (s : Shape r) where
-  pub scheduled-record : (kws ranks : List ℕ) → withSchedule r (scheduleFrom (r .terms .generators) (r .terms .consumers) kws ranks) ≡ stored (afterSchedule kws ranks (figures r))
-  unfolding stored afterSchedule figures planOf withSchedule scheduleFrom newKw newRank
-  scheduled-record kws ranks =
-      sym
-      (λ i. record {
-        terms = r .terms;
-        counts = r .counts;
-        agreed =
-            record {
-              kind = table-place 8 (r .agreed .kind) (s .agreed .kind) i;
-              installed = table-place 8 (r .agreed .installed) (s .agreed .installed) i;
-              contracted = table-place 8 (r .agreed .contracted) (s .agreed .contracted) i;
-            };
-        links = record { link = pairs-cell (r .links .link) (s .links .link) i; loss = pairs-cell (r .links .loss) (s .links .loss) i };
-        schedule =
-            record {
-              kw = pairs 8 16 (cell (r .terms .generators) (r .terms .consumers) kws);
-              rank = pairs 8 16 (cell (r .terms .generators) (r .terms .consumers) ranks);
-            };
-        generators = generators-kept (r .generators) (s .generators) i;
-        consumers = consumers-kept (r .consumers) (s .consumers) i;
-      })

@@ -16,13 +16,13 @@ use Rattle.record.specs.Laws.CalledLaws.{number-sound, record-facts, accepted-s
 use Rattle.record.specs.Laws.Shape.{Shape}
 use Rattle.record.specs.Sound.{sound}
 use Rattle.record.specs.Stored.{planOf, figures, stored}
-use Rattle.record.specs.RecordWords.{runLengths, total, words, cut, fromRuns, recordOf}
+use Rattle.record.specs.RecordWords.{runs, runLengths, total, words, cut, fromRuns, recordOf}
 use Rattle.record.specs.declared.Record.{Record}
 use Rattle.record.specs.declared.Terms.{Terms}
 use Rattle.record.specs.declared.Counts.{Counts}
 use Rattle.record.specs.declared.Agreed.{Agreed}
 use Rattle.record.specs.declared.Links.{Links}
-use Rattle.record_layout.specs.Laws.RecordKept.{record-shape}
+use Rattle.record_layout.specs.Laws.RecordKept.{changed-record, record-shape}
 use Rattle.record_layout.specs.Laws.Layout.{run, links-at}
 use Rattle.record_layout.specs.Laws.LayoutLaws.{bytes-of-record}
 use Rattle.record_layout.specs.Laws.RecordHead.{HeadRead}
@@ -33,10 +33,8 @@ use Rattle.record_layout.specs.Laws.NumbersReplaced.{replaced, list-replaced}
 use Rattle.agreement_rules.specs.Laws.AgreedReading.{RowsAt}
 use Rattle.agreement_rules.specs.Laws.AgreedRefusals.{refusalOn}
 use Rattle.agreement_rules.specs.Laws.AgreedRefusalsLaws.{refusal-figures}
-use Rattle.agreement_rules.specs.Schedule.{afterSchedule, scheduleRule}
+use Rattle.agreement_rules.specs.Schedule.{afterSchedule, scheduleRule, newKw, newRank}
 use Rattle.agreement_rules.specs.Laws.ScheduleLaws.{Schedulable, accepted-schedulable}
-use Rattle.agreement_rules.specs.Laws.AgreedParts.{scheduleFrom, withSchedule}
-use Rattle.agreement_rules.specs.Laws.AgreedPartsLaws.{scheduled-record}
 use Rattle.record_runs.specs.Laws.Raise.{Replaced}
 use Rattle.schedule.specs.Laws.ScheduleAccepted.{Accepted}
 use Rattle.record_places.specs.RecordSize.{recordNumbers, recordBytes, wordsIn}
@@ -105,8 +103,13 @@ module _ (s kws ranks : List ℕ) where
         rw (whole-list n m kws, whole-list n m ranks)
 
     record-after : recordOf (replaced (from rankAt) 128 (λ i. getD rank i 0) (replaced (from kwAt) 128 (λ i. getD kw i 0) ws)) ≡ stored (afterSchedule kws ranks (figures r))
-    unfolding recordOf fromRuns runLengths cut withSchedule scheduleFrom
-    record-after = ap fromRuns runs-after ∙ rw (h .n-is, h .m-is) (scheduled-record r shape kws ranks)
+    unfolding recordOf runs stored afterSchedule newKw newRank figures planOf
+    record-after =
+        ap fromRuns runs-after ∙
+        rw (h .n-is, h .m-is)
+        (changed-record ws (length-decode 8 recordNumbers s)
+        (λ xss. set (set xss 4 (pairs 8 16 (cell (r .terms .generators) (r .terms .consumers) kws))) 5 (pairs 8 16 (cell (r .terms .generators) (r .terms .consumers) ranks)))
+        (afterSchedule kws ranks (figures r)) refl)
 
     -- the bytes in which both lists are replaced are those of the record that the rules store
     pub bytes-after : {t u : List ℕ} → Replaced (from kwAt) 128 (λ i. getD kw i 0) s t → Replaced (from rankAt) 128 (λ i. getD rank i 0) t u → length u ≡ recordBytes → Below 256 u →
