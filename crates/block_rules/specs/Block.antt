@@ -82,13 +82,13 @@ module _ (entry exit : List ℕ) where
   exitOf b = place (b .plan .C) exit
 
   -- its number, by the counts of generators, consumers, month blocks and unit blocks
-  unfoldable pub blockNumber : (G C month blocks size : ℕ) → ℕ
-  blockNumber G C month blocks size =
+  unfoldable pub blockNumber : (G C monthblocks unitblocks size : ℕ) → ℕ
+  blockNumber G C monthblocks unitblocks size =
       firstOf
       ((2, not (eqb (length entry) G && eqb (length exit) C && eqb size (blockLength G C))) ∷
       (10, some G (λ g. ltb mostReading (place G entry g)) || some C (λ c. ltb mostReading (place C exit c))) ∷
-      (11, leb mostMonthBlocks month) ∷
-      (12, leb mostUnitBlocks blocks) ∷
+      (11, leb mostMonthBlocks monthblocks) ∷
+      (12, leb mostUnitBlocks unitblocks) ∷
       [])
 
   unfoldable pub blockRefusal : ℕ → Book → ℕ

@@ -120,8 +120,8 @@ unfoldable pub closingLength : (G C : ℕ) → ℕ
 closingLength G C = G * C + 3 * G + 2 * C
 
 -- its number, by the counts of generators, consumers and month blocks
-unfoldable pub closingNumber : (G C month size : ℕ) → ℕ
-closingNumber G C month size = firstOf ((2, not (eqb size (closingLength G C))) ∷ (13, eqb month 0) ∷ [])
+unfoldable pub closingNumber : (G C monthblocks size : ℕ) → ℕ
+closingNumber G C monthblocks size = firstOf ((2, not (eqb size (closingLength G C))) ∷ (13, eqb monthblocks 0) ∷ [])
 
 unfoldable pub closingRefusal : ℕ → Book → ℕ
 closingRefusal size b = closingNumber (b .plan .G) (b .plan .C) (b .monthblocks) size

@@ -16,8 +16,8 @@ limit inside n = if inside then n else 0
 
 -- the ranges of the counts: G, C, bank terms, blocks
 unfoldable pub countsSound : ℕ → ℕ → ℕ → ℕ → ℕ → ℕ → ℕ → Bool
-countsSound G C rate cycle gone blocks month =
-    within 1 mostGenerators G && within 1 mostConsumers C && leb rate mostRate && within 1 mostCycle cycle && ltb gone cycle && leb blocks mostUnitBlocks && leb month mostMonthBlocks && leb month blocks
+countsSound G C rate cycle gone unitblocks monthblocks =
+    within 1 mostGenerators G && within 1 mostConsumers C && leb rate mostRate && within 1 mostCycle cycle && ltb gone cycle && leb unitblocks mostUnitBlocks && leb monthblocks mostMonthBlocks && leb monthblocks unitblocks
 
 -- one generator of the agreement, with the sum of its scheduled kW, which is within the lower of its capacities (5.1)
 unfoldable pub agreedSound : Bool → ℕ → ℕ → ℕ → ℕ → Bool
@@ -31,11 +31,11 @@ pairSound inside link loss kw rank =
 
 -- the totals of one generator: injected within its bound, and the generator equation
 unfoldable pub generatorSound : ℕ → Bool → GeneratorTerms → Bool
-generatorSound blocks inside x = leb (x .injected) (limit inside (mostReading * blocks)) && eqb (x .injected) (splitOfInjected x)
+generatorSound unitblocks inside x = leb (x .injected) (limit inside (mostReading * unitblocks)) && eqb (x .injected) (splitOfInjected x)
 
 -- the totals of one consumer: metered within its bound, and the consumer equation
 unfoldable pub consumerSound : ℕ → Bool → ConsumerTerms → Bool
-consumerSound blocks inside x = leb (x .metered) (limit inside (mostReading * blocks)) && eqb (x .metered) (splitOfMetered x)
+consumerSound unitblocks inside x = leb (x .metered) (limit inside (mostReading * unitblocks)) && eqb (x .metered) (splitOfMetered x)
 
 module _ (b : Book) where
   unfoldable pub sound : Bool
