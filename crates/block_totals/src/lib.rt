@@ -8,12 +8,11 @@ ghost use Rattle.codec.specs.Bytes.{encode};
 ghost use Rattle.record.specs.Stored.{stored};
 ghost use Rattle.record.specs.RecordWords.{words};
 ghost use Rattle.block_rules.specs.Block.{entryOf, exitOf, afterBlock};
-ghost use Rattle.record_layout.specs.OnBytes.{bookIn, recordIn};
-ghost use Rattle.record_layout.specs.Laws.NumbersRaised.{from};
+ghost use Rattle.record_layout.specs.OnBytes.{bookIn};
 ghost use Rattle.record_runs.specs.Laws.Raise.{rowSum, Raised, mostRaised, Raisable};
 ghost use Rattle.block_totals.specs.Laws.BlockTotals.{underdrawnPlace, generatorsRaised, consumersRaised, BlockLists, Settled};
 ghost use Rattle.record_places.specs.RecordSize.{recordBytes, wordsIn};
-ghost use Rattle.record_places.specs.Laws.Places.{unitBlocksAt, injectedAt, inadvertentAt, meteredAt};
+ghost use Rattle.record_places.specs.Laws.Places.{injectedAt, inadvertentAt, meteredAt};
 use record::Counts;
 
 fn underdrawn_place(s: &[u8], g: usize) -> usize
@@ -62,16 +61,7 @@ fn raise_consumers(s: &mut [u8], exit: &[u32], out: &[u64], n: usize, m: usize)
     record_runs::raise_numbers(s, record_places::OUTSTANDING, out, 4 * size + n, m);
 }
 
-// One block more of the unit and of the month than was read.
-fn raise_counts(s: &mut [u8], counts: Counts)
-    requires { ⌜ Raisable unitBlocksAt 2 mostFigure (now s) × (counts ≡ recordIn (now s) .counts) ⌝ }
-    ensures { λ _. ⌜ Raised (from unitBlocksAt) 2 (λ i. 1) (now (s .entry)) (now (s .exit)) ⌝ }
-{
-    record_numbers::put_at(s, record_places::UNIT_BLOCKS, counts.unitblocks + 1);
-    record_numbers::put_at(s, record_places::MONTH_BLOCKS, counts.monthblocks + 1);
-}
-
-// The record after a block whose lists stand in `out`.
+// The record after a block whose lists stand in `out`, by the counts that it had before.
 pub fn raise(
     s: &mut [u8],
     n: usize,
@@ -84,7 +74,8 @@ pub fn raise(
     requires { ⌜ Settled (now s) n m counts (now entry) (now exit) (now out) ⌝ }
     ensures { λ _. ⌜ now (s .exit) ≡ encode 8 (words (stored (afterBlock (bookIn (now (s .entry))) (entryOf (now (entry .entry)) (now (exit .entry)) (bookIn (now (s .entry)))) (exitOf (now (entry .entry)) (now (exit .entry)) (bookIn (now (s .entry))))))) ⌝ }
 {
-    raise_counts(s, counts);
     raise_generators(s, entry, out, n, m);
     raise_consumers(s, exit, out, n, m);
+    record_numbers::put_at(s, record_places::UNIT_BLOCKS, counts.unitblocks + 1);
+    record_numbers::put_at(s, record_places::MONTH_BLOCKS, counts.monthblocks + 1);
 }

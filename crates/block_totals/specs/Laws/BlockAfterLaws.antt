@@ -1,6 +1,6 @@
 -- The numbers that a block raises make the record that rule 8 stores. Assumes nothing.
 use Prim.Native.Nat.{ℕ, _+_, _*_, _≤_, _<_}
-use mathlib.Core.Path.{_≡_, refl, sym, ap, _∙_, fun-ext}
+use mathlib.Core.Path.{_≡_, refl, sym, ap, _∙_}
 use mathlib.Core.Bool.{Bool, true, false, not}
 use mathlib.Core.List.{List, [], _∷_}
 use mathlib.Core.Logic.{_⊎_, inl, inr}
@@ -16,7 +16,7 @@ use Rattle.lists.specs.Tables.{table}
 use Rattle.lists.specs.Laws.TablesLaws.{is-table}
 use Rattle.lists.specs.Pairs.{place}
 use Rattle.lists.specs.Laws.PairsLaws.{place-in}
-use Rattle.energy.specs.Limits.{mostFigure}
+use Rattle.energy.specs.Limits.{mostFigure, mostUnitBlocks, mostMonthBlocks}
 use Rattle.codec.specs.Bytes.{encode}
 use Rattle.codec.specs.Laws.BytesLaws.{Below, length-decode}
 use Rattle.record.specs.Plan.{Plan, deemed}
@@ -31,7 +31,7 @@ use Rattle.record.specs.Laws.SoundLaws.{Facts}
 use Rattle.record.specs.RecordWords.{runs, runLengths, total, words, cut, fromRuns, recordOf}
 use Rattle.record.specs.declared.Record.{Record}
 use Rattle.record.specs.declared.Counts.{Counts}
-use Rattle.record_layout.specs.Laws.NumbersRaised.{raised, from, raised-run, raised-either, raised-other, list-raised}
+use Rattle.record_layout.specs.Laws.NumbersRaised.{from, set-run, raised-either, raised-other, list-raised}
 use Rattle.record_layout.specs.Laws.LayoutLaws.{bytes-of-record}
 use Rattle.record_layout.specs.Laws.FigurePlaces.{kind-place}
 use Rattle.record_layout.specs.Laws.RecordKept.{changed-record, record-shape, numbers-low}
@@ -43,13 +43,12 @@ use Rattle.record_layout.specs.OnBytes.{bookIn, recordIn}
 use Rattle.record_runs.specs.Laws.Raise.{rowSum, columnSum, Raisable}
 use Rattle.block_totals.specs.Laws.BlockTotals.{fourRaised, generatorsRaised, consumersRaised, countsRaised, BlockLists, Settled}
 use Rattle.record_places.specs.RecordSize.{recordNumbers, recordBytes, wordsIn}
-use Rattle.record_places.specs.Laws.Places.{unitBlocksAt, agreedAt, injectedAt, unaccountedAt, lostAt, generatorSetOffAt, inadvertentAt, pendingAt}
+use Rattle.record_places.specs.Laws.Places.{agreedAt, injectedAt, unaccountedAt, lostAt, generatorSetOffAt, inadvertentAt, pendingAt}
 
 -- the counts of blocks, behind the five first numbers
-counted : (xs : List ℕ) → length xs ≡ 7 →
-    raised (from unitBlocksAt) 2 (λ i. 1) xs ≡ getD xs 0 0 ∷ getD xs 1 0 ∷ getD xs 2 0 ∷ getD xs 3 0 ∷ getD xs 4 0 ∷ (getD xs 5 0 + 1) ∷ (getD xs 6 0 + 1) ∷ []
-unfolding table raised
-counted xs e = ap (raised (from unitBlocksAt) 2 (λ i. 1)) (is-table 0 7 (λ i. getD xs i 0) xs e (λ i l. refl))
+counted : (xs : List ℕ) (b m : ℕ) → length xs ≡ 7 → set (set xs 5 b) 6 m ≡ getD xs 0 0 ∷ getD xs 1 0 ∷ getD xs 2 0 ∷ getD xs 3 0 ∷ getD xs 4 0 ∷ b ∷ m ∷ []
+unfolding table
+counted xs b m e = ap (λ (ys : List ℕ). set (set ys 5 b) 6 m) (is-table 0 7 (λ i. getD xs i 0) xs e (λ i l. refl))
 
 -- ---- what is added, place by place
 
@@ -129,7 +128,7 @@ module _ (s entry exit out : List ℕ) (f : Facts (bookIn s)) (ok : Enterable en
   R = exitOf entry exit (bookIn s)
 
   abbrev four : List ℕ
-  four = fourRaised (p .G) (p .C) entry out (countsRaised ws)
+  four = fourRaised (p .G) (p .C) entry out ws
 
   listed : Output p E R out
   listed = rw is (output-back p E R)
@@ -142,28 +141,15 @@ module _ (s entry exit out : List ℕ) (f : Facts (bookIn s)) (ok : Enterable en
 
   -- the kinds stand before all that is raised
   kind-is : (g : ℕ) → g < p .G → getD four (agreedAt + g * 3) 0 ≡ p .kind g
-  unfolding fourRaised countsRaised figures planOf
+  unfolding fourRaised figures planOf
   kind-is g l =
       let few : g < 8 = omega (arith, f .counts .G-high) in
       let k : ℕ = agreedAt + g * 3 in
       raised-other (from generatorSetOffAt) _ _ (p .G) k (λ i a x. omega arith) ∙ raised-other (from lostAt) _ _ (p .G) k (λ i a x. omega arith) ∙
       raised-other (from unaccountedAt) _ _ (p .G) k (λ i a x. omega arith) ∙ raised-other (from injectedAt) _ _ (p .G) k (λ i a x. omega arith) ∙
-      raised-other (from unitBlocksAt) _ ws 2 k (λ i a x. omega arith) ∙ sym (place-in 8 (r .agreed .kind) g few ∙ kind-place ws g few)
+      sym (place-in 8 (r .agreed .kind) g few ∙ kind-place ws g few)
 
-  -- the lists with the counts raised; then those of the generators, and those of the consumers
-  counts-after : List (List ℕ) → List (List ℕ)
-  counts-after xss =
-      let t = r .terms in
-      let n = r .counts in
-      set xss 0 (t .generators ∷ t .consumers ∷ t .rate ∷ t .cycle ∷ n .gone ∷ (n .unitblocks + 1) ∷ (n .monthblocks + 1) ∷ [])
-
-  runs-counts : cut runLengths (countsRaised ws) ≡ counts-after (cut runLengths ws)
-  unfolding counts-after countsRaised recordOf fromRuns runLengths cut total
-  runs-counts =
-      let at : (λ (i : ℕ). 0 + (unitBlocksAt + i)) ≡ from unitBlocksAt = fun-ext (λ i. zero-add (unitBlocksAt + i)) in
-      ap (λ (k : ℕ → ℕ). cut runLengths (raised k 2 (λ i. 1) ws)) (sym at) ∙ raised-run runLengths ws 0 (from unitBlocksAt) 2 (λ i. 1) (λ i l. omega arith) ∙
-      ap (set (cut runLengths ws) 0) (counted (take 7 ws) (length-take-le 7 ws (omega (arith, length-decode 8 recordNumbers s))))
-
+  -- the lists with those of the generators raised; then those of the consumers, and the counts
   generators-after : List (List ℕ) → List (List ℕ)
   generators-after xss =
       let x = r .generators in
@@ -172,7 +158,7 @@ module _ (s entry exit out : List ℕ) (f : Facts (bookIn s)) (ok : Enterable en
       (set
       (set
       (set
-      (set (set (counts-after xss) 6 (table 8 (λ g. place 8 (x .injected) g + E g))) 7
+      (set (set xss 6 (table 8 (λ g. place 8 (x .injected) g + E g))) 7
       (table 8 (λ g. place 8 (x .unaccounted) g + unaccounted p g (E g))))
       8
       (table 8 (λ g. place 8 (x .lost) g + sum (p .C) (λ c. lossOf p g (E g) c))))
@@ -183,8 +169,8 @@ module _ (s entry exit out : List ℕ) (f : Facts (bookIn s)) (ok : Enterable en
       15
       (table 8 (λ g. place 8 (x .pending) g + (if deemed p g then under g else 0)))
 
-  runs-generators : cut runLengths (generatorsRaised (p .G) (p .C) entry out (countsRaised ws)) ≡ generators-after (cut runLengths ws)
-  unfolding generators-after counts-after generatorsRaised fourRaised recordOf fromRuns runLengths cut total entryOf under
+  runs-generators : cut runLengths (generatorsRaised (p .G) (p .C) entry out ws) ≡ generators-after (cut runLengths ws)
+  unfolding generators-after generatorsRaised fourRaised recordOf fromRuns runLengths cut total entryOf under
   runs-generators =
       let x = r .generators in
       let z = shape .generators in
@@ -192,7 +178,7 @@ module _ (s entry exit out : List ℕ) (f : Facts (bookIn s)) (ok : Enterable en
       let d = able .entries in
       let kind : ℕ → ℕ = λ g. getD four (agreedAt + g * 3) 0 in
       let one =
-      list-raised 8 (p .G) (countsRaised ws) 6 (x .injected) (λ g. getD entry g 0) E few refl (z .injected) runs-counts refl (λ g l. sym (place-in (p .G) entry g l)) (d .entry-beyond) in
+      list-raised 8 (p .G) ws 6 (x .injected) (λ g. getD entry g 0) E few refl (z .injected) refl refl (λ g l. sym (place-in (p .G) entry g l)) (d .entry-beyond) in
       let two =
       list-raised 8 (p .G) _ 7 (x .unaccounted) (λ g. getD out (4 * (p .G * p .C) + g) 0) (λ g. unaccounted p g (E g)) few refl (z .unaccounted) one refl (listed .missed-is) (unaccounted-beyond p E R able) in
       let three =
@@ -221,8 +207,11 @@ module _ (s entry exit out : List ℕ) (f : Facts (bookIn s)) (ok : Enterable en
       21
       (table 16 (λ c. place 16 (y .outstanding) c + remainder p E c (R c)))
 
-  runs-consumers : cut runLengths (consumersRaised (p .G) (p .C) exit out (generatorsRaised (p .G) (p .C) entry out (countsRaised ws))) ≡ consumers-after (cut runLengths ws)
-  unfolding consumers-after generators-after counts-after consumersRaised recordOf fromRuns runLengths cut total exitOf
+  abbrev totals : List ℕ
+  totals = consumersRaised (p .G) (p .C) exit out (generatorsRaised (p .G) (p .C) entry out ws)
+
+  runs-consumers : cut runLengths totals ≡ consumers-after (cut runLengths ws)
+  unfolding consumers-after generators-after consumersRaised recordOf fromRuns runLengths cut total exitOf
   runs-consumers =
       let y = r .consumers in
       let z = shape .consumers in
@@ -238,28 +227,48 @@ module _ (s entry exit out : List ℕ) (f : Facts (bookIn s)) (ok : Enterable en
       (column p E R out listed able (3 * (p .G * p .C)) (λ g c. shortfall p E c (R c) g) (listed .short-is)) (no-column p E R out listed able (λ g c. shortfall p E c (R c) g) (λ g c o. shortfall-beyond p E d g c o (R c))) in
       list-raised 16 (p .C) _ 21 (y .outstanding) (λ c. getD out (4 * (p .G * p .C) + p .G + c) 0) (λ c. remainder p E c (R c)) few refl (z .outstanding) three refl (listed .left-is) (remainder-beyond p E R able)
 
-  -- what is not raised stays
-  from-runs : fromRuns (consumers-after (cut runLengths ws)) ≡ stored (afterBlock (bookIn s) E R)
-  unfolding consumers-after generators-after counts-after runs stored storedGenerators storedConsumers afterBlock generatorAfterBlock consumerAfterBlock figures planOf generatorAt consumerAt
-  from-runs = changed-record ws (length-decode 8 recordNumbers s) consumers-after (afterBlock (bookIn s) E R) refl
+  counts-after : List (List ℕ) → List (List ℕ)
+  counts-after xss =
+      let t = r .terms in
+      let n = r .counts in
+      set (consumers-after xss) 0 (t .generators ∷ t .consumers ∷ t .rate ∷ t .cycle ∷ n .gone ∷ (n .unitblocks + 1) ∷ (n .monthblocks + 1) ∷ [])
 
-  record-after : recordOf (consumersRaised (p .G) (p .C) exit out (generatorsRaised (p .G) (p .C) entry out (countsRaised ws))) ≡ stored (afterBlock (bookIn s) E R)
+  runs-counts : cut runLengths (countsRaised (r .counts) totals) ≡ counts-after (cut runLengths ws)
+  unfolding counts-after consumers-after generators-after countsRaised recordOf fromRuns runLengths cut total
+  runs-counts =
+      let b = r .counts .unitblocks + 1 in
+      let m = r .counts .monthblocks + 1 in
+      let put : ℕ → ℕ → List (List ℕ) → List (List ℕ) = λ i v xss. set xss 0 (set (getD xss 0 []) i v) in
+      let first : cut runLengths (set totals 5 b) ≡ put 5 b (consumers-after (cut runLengths ws)) = set-run runLengths totals 0 5 b (omega arith) ∙ ap (put 5 b) runs-consumers in
+      set-run runLengths (set totals 5 b) 0 6 m (omega arith) ∙ ap (put 6 m) first ∙
+      ap (set (consumers-after (cut runLengths ws)) 0) (counted (take 7 ws) b m (length-take-le 7 ws (omega (arith, length-decode 8 recordNumbers s))))
+
+  -- what is not raised stays
+  from-runs : fromRuns (counts-after (cut runLengths ws)) ≡ stored (afterBlock (bookIn s) E R)
+  unfolding counts-after consumers-after generators-after runs stored storedGenerators storedConsumers afterBlock generatorAfterBlock consumerAfterBlock figures planOf generatorAt consumerAt
+  from-runs = changed-record ws (length-decode 8 recordNumbers s) counts-after (afterBlock (bookIn s) E R) refl
+
+  record-after : recordOf (countsRaised (r .counts) totals) ≡ stored (afterBlock (bookIn s) E R)
   unfolding recordOf
-  record-after = ap fromRuns runs-consumers ∙ from-runs
+  record-after = ap fromRuns runs-counts ∙ from-runs
 
 -- ---- what the call requires, and what it makes
 
 module _ {s : List ℕ} {n m : ℕ} {counts : Counts} {entry exit out : List ℕ} (h : Settled s n m counts entry exit out) where
   -- bytes of the numbers raised are those of the record that rule 8 stores
-  pub bytes-after : (t : List ℕ) → length t ≡ recordBytes → Below 256 t → wordsIn t ≡ consumersRaised n m exit out (generatorsRaised n m entry out (countsRaised (wordsIn s))) →
+  pub bytes-after : (t : List ℕ) → length t ≡ recordBytes → Below 256 t → wordsIn t ≡ countsRaised counts (consumersRaised n m exit out (generatorsRaised n m entry out (wordsIn s))) →
       t ≡ encode 8 (words (stored (afterBlock (bookIn s) (entryOf entry exit (bookIn s)) (exitOf entry exit (bookIn s)))))
   bytes-after t size low e =
       sym (bytes-of-record t size low) ∙
-      rw (e, h .generators, h .consumers) (ap (λ (x : Record). encode 8 (words x)) (record-after s entry exit out (h .sound) (h .enterable) (h .output)))
+      rw (e, h .counts-are, h .generators, h .consumers) (ap (λ (x : Record). encode 8 (words x)) (record-after s entry exit out (h .sound) (h .enterable) (h .output)))
 
-  pub counts-raisable : Raisable unitBlocksAt 2 mostFigure s
-  counts-raisable =
+  pub totals-raisable : Raisable injectedAt 80 mostFigure s
+  totals-raisable =
       record { size = h .size; placed = omega arith; low = record { at = λ k l. numbers-low (wordsIn s) (length-decode 8 recordNumbers s) (h .sound) k } }
+
+  pub counts-low : (counts .unitblocks ≤ mostUnitBlocks) × (counts .monthblocks ≤ mostMonthBlocks)
+  unfolding figures
+  counts-low = rw (h .counts-are) (h .sound .counts .blocks-high, h .sound .counts .month-high)
 
   pub entry-sized : length entry ≡ n
   entry-sized = h .enterable .entry-size ∙ sym (h .generators)

@@ -3,7 +3,7 @@ use Prim.Native.Nat.{ℕ, _+_, _*_}
 use mathlib.Core.Path.{_≡_}
 use mathlib.Core.List.{List}
 use lib.Dec.{eqb}
-use lib.ListN.{length, getD}
+use lib.ListN.{length, getD, set}
 use Rattle.lists.specs.Choice.{if_then_else_}
 use Rattle.block_rules.specs.Settlement.{blockOutput}
 use Rattle.record.specs.Laws.SoundLaws.{Facts}
@@ -14,7 +14,7 @@ use Rattle.record_runs.specs.Laws.Raise.{rowSum, columnSum, OutputLists}
 use Rattle.block_rules.specs.Block.{entryOf, exitOf}
 use Rattle.block_rules.specs.Laws.BlockLaws.{Enterable}
 use Rattle.record_places.specs.RecordSize.{recordBytes}
-use Rattle.record_places.specs.Laws.Places.{unitBlocksAt, agreedAt, injectedAt, unaccountedAt, lostAt, generatorSetOffAt, inadvertentAt, pendingAt, meteredAt, consumerSetOffAt, shortfallAt, outstandingAt}
+use Rattle.record_places.specs.Laws.Places.{unitBlocksAt, monthBlocksAt, agreedAt, injectedAt, unaccountedAt, lostAt, generatorSetOffAt, inadvertentAt, pendingAt, meteredAt, consumerSetOffAt, shortfallAt, outstandingAt}
 
 -- ---- what a block raises, for n generators and m consumers, by its readings and its output
 
@@ -42,9 +42,9 @@ module _ (n m : ℕ) (readings out ws : List ℕ) where
       (raised (from consumerSetOffAt) m (columnSum n m out (n * m))
       (raised (from meteredAt) m (λ c. getD readings c 0) ws)))
 
--- the blocks of the unit and of the month
-unfoldable pub countsRaised : List ℕ → List ℕ
-countsRaised = raised (from unitBlocksAt) 2 (λ i. 1)
+-- the blocks of the unit and of the month, one more than there were
+unfoldable pub countsRaised : Counts → List ℕ → List ℕ
+countsRaised n ws = set (set ws unitBlocksAt (n .unitblocks + 1)) monthBlocksAt (n .monthblocks + 1)
 
 -- the lists of a block
 abbrev pub BlockLists : (n m : ℕ) (out : List ℕ) → Type 0

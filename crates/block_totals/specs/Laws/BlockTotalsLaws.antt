@@ -1,39 +1,19 @@
 -- The numbers that a block raises: where underdrawn energy goes, and the totals one list after the other. Assumes nothing.
 use Prim.Native.Nat.{ℕ, _+_, _*_, _≤_, _<_}
-use mathlib.Core.Path.{_≡_, refl, sym, ap, _∙_}
+use mathlib.Core.Path.{_≡_, sym, ap, _∙_}
 use mathlib.Core.Bool.{Bool, true, false}
 use mathlib.Core.List.{List}
 use native.Mathlib.Omega.{arith}
 use borrow.Author.Tests.{eq-eqb, ne-eqb}
 use lib.Dec.{eqb}
-use lib.ListN.{length, getD, set}
+use lib.ListN.{length, getD}
 use Rattle.lists.specs.Choice.{if_then_else_}
-use Rattle.record.specs.declared.Counts.{Counts}
-use Rattle.record_layout.specs.Laws.FigurePlaces.{counts-places}
 use Rattle.record_layout.specs.Laws.NumbersRaised.{from, raised-other}
 use Rattle.record_runs.specs.Laws.Raise.{rowSum, columnSum, Raised, Raisable}
-use Rattle.record_runs.specs.Laws.RaiseLaws.{none-raised, one-more, not-raised}
+use Rattle.record_runs.specs.Laws.RaiseLaws.{not-raised}
 use Rattle.block_totals.specs.Laws.BlockTotals.{underdrawnPlace, fourRaised, generatorsRaised, consumersRaised}
 use Rattle.record_places.specs.RecordSize.{wordsIn}
-use Rattle.record_places.specs.Laws.Places.{unitBlocksAt, monthBlocksAt, agreedAt, injectedAt, unaccountedAt, lostAt, generatorSetOffAt, inadvertentAt, pendingAt, meteredAt, consumerSetOffAt, shortfallAt, outstandingAt}
-use Rattle.record_layout.specs.OnBytes.{recordIn}
-
--- ---- the counts, raised by what was read of them
-
-module _ (s : List ℕ) {counts : Counts} (e : counts ≡ recordIn s .counts) where
-  pub blocks-at : counts .unitblocks ≡ getD (wordsIn s) unitBlocksAt 0
-  blocks-at = ap (λ (n : Counts). n .unitblocks) (e ∙ counts-places (wordsIn s))
-
-  pub month-at : counts .monthblocks ≡ getD (wordsIn s) monthBlocksAt 0
-  month-at = ap (λ (n : Counts). n .monthblocks) (e ∙ counts-places (wordsIn s))
-
-  pub counts-raised : (t : List ℕ) {u : List ℕ} → length t ≡ length s → length u ≡ length t →
-      wordsIn t ≡ set (wordsIn s) unitBlocksAt (counts .unitblocks + 1) → wordsIn u ≡ set (wordsIn t) monthBlocksAt (counts .monthblocks + 1) → Raised (from unitBlocksAt) 2 (λ i. 1) s u
-  counts-raised t size size′ d d′ =
-      let one : Raised (from unitBlocksAt) 1 (λ i. 1) s t = one-more none-raised refl size (rw blocks-at at d) in
-      one-more one refl size′ (rw (month-at ∙ sym (not-raised 6 one (λ j l x. omega arith))) at d′)
-
--- ---- where underdrawn energy goes
+use Rattle.record_places.specs.Laws.Places.{agreedAt, injectedAt, unaccountedAt, lostAt, generatorSetOffAt, inadvertentAt, pendingAt, meteredAt, consumerSetOffAt, shortfallAt, outstandingAt}
 
 module _ (ws : List ℕ) (g : ℕ) {kind : ℕ} (e : kind ≡ getD ws (agreedAt + g * 3) 0) where
   pub inadvertent-place : kind ≡ 0 → underdrawnPlace ws g ≡ inadvertentAt + g
