@@ -52,11 +52,11 @@ number-short text h = rw (le-ltb mostInput (length text) h) (go (startsWithNames
     go true = refl
     go false = refl
 
-number-differ : (text : List ℕ) → startsWithNames 1 2 text ≡ false → tableNumber text ≡ 14
+pub number-differ : (text : List ℕ) → startsWithNames 1 2 text ≡ false → tableNumber text ≡ 14
 unfolding tableNumber
 number-differ text e = rw e (names-differ text space e)
 
-number-long : (text : List ℕ) → startsWithNames 1 2 text ≡ true → mostInput < length text → tableNumber text ≡ 15
+pub number-long : (text : List ℕ) → startsWithNames 1 2 text ≡ true → mostInput < length text → tableNumber text ≡ 15
 unfolding tableNumber
 number-long text e h = rw (e, lt-ltb mostInput (length text) h)
 

@@ -52,7 +52,8 @@ same-length c = search needs
 returns : tie.Need-returns Inv-loop μ-loop
 returns c =
     let called = c .before .before .before in
-    entering-stop (called .before .before .before .before .before .before .loop .inv) (called .enter-line .last .0) (search needs) (called .enter-line .ensures) (c .if1 .taken)
+    let entered = called .before .before .before .before .before .before .loop .inv in
+    entering-stop entered (called .enter-line .last .0) (search needs) (called .enter-line .ensures) (c .if1 .taken)
 
 add-i : tie.Need-add-i Inv-loop μ-loop
 add-i c = search needs
