@@ -3,6 +3,7 @@
 use Prim.Native.Nat.{ℕ, suc, _+_, _-_, _≤_, _<_}
 use mathlib.Core.Path.{_≡_, refl}
 use mathlib.Core.Bool.{Bool, true, false}
+use mathlib.Core.List.{[]}
 use mathlib.Core.Logic.{_⊎_, inl, inr, ⊎-elim}
 use native.Mathlib.Omega.{arith}
 use borrow.Author.Tests.{eq-eqb, eqb-true, eqb-false}
@@ -11,7 +12,8 @@ use Rattle.lists.specs.Choice.{if_then_else_}
 use Rattle.lists.specs.Sums.{sum}
 use Rattle.lists.specs.Laws.SumsLaws.{sum-both-ways}
 use Rattle.lists.specs.Refusals.{firstOf}
-use Rattle.lists.specs.Laws.RefusalsLaws.{first-or}
+use Rattle.lists.specs.Laws.RefusalsLaws.{first-head, first-tail, first-or}
+use Rattle.energy.specs.Limits.{mostMonthBlocks}
 use Rattle.energy.specs.Laws.EnergyLaws.{portion-le}
 use Rattle.order_rules.specs.Laws.Members.{In, order-in, only-in}
 use Rattle.order_rules.specs.Laws.OrderLaws.{Ahead, order-sorted, only-sorted}
@@ -163,3 +165,9 @@ closing-again b size e = rw (eq-eqb size (closingLength (b .plan .G) (b .plan .C
 pub closing-sized : (size : ℕ) (b : Book) → (closingRefusal size b ≡ 2) ⊎ (size ≡ closingLength (b .plan .G) (b .plan .C))
 unfolding closingNumber closingRefusal
 closing-sized size b = ⊎-elim inl (λ (e : eqb size (closingLength (b .plan .G) (b .plan .C)) ≡ true). inr (eqb-true size (closingLength (b .plan .G) (b .plan .C)) e)) (first-or 2 (eqb size (closingLength (b .plan .G) (b .plan .C))) _)
+
+-- a closed month has 1 to 3,360 blocks
+pub closed-month : (size : ℕ) (b : Book) → Facts b → closingRefusal size b ≡ 0 → (1 ≤ b .monthblocks) × (b .monthblocks ≤ mostMonthBlocks)
+unfolding closingNumber closingRefusal
+closed-month size b f e =
+    (omega (arith, eqb-false (b .monthblocks) 0 (first-head 12 (eqb (b .monthblocks) 0) [] (first-tail 1 _ _ e))), f .counts .month-high)
