@@ -1,135 +1,157 @@
--- Settling of stock kept in an array, and the laws by which its loops are proved. Assumes nothing.
-use Prim.Native.Nat.{ℕ, zero, suc, _+_, _-_, _%_, _≤_, _<_, min}
-use mathlib.Core.Path.{_≡_, refl, sym, ap, _∙_, subst, fun-ext}
+-- Settling of stock that is kept in a column of a list, and the laws by which its loop is proved. Assumes nothing.
+use Prim.Native.Nat.{ℕ, zero, suc, _+_, _-_, _*_, _/_, _%_, _≤_, _<_, min}
+use mathlib.Core.Path.{_≡_, refl, sym, ap, _∙_, fun-ext}
 use mathlib.Core.Bool.{Bool, true, false}
 use mathlib.Core.List.{List}
-use mathlib.Core.Logic.{inl, inr}
+use native.Mathlib.Nat.{mul-le-mul}
 use native.Mathlib.Omega.{arith}
-use borrow.Author.Tests.{eqb-true, eqb-false, ltb-false}
-use lib.Dec.{ltb, eqb}
+use borrow.Author.Tests.{eqb-true, eqb-false}
+use lib.Dec.{eqb}
 use lib.ListN.{length, getD, set, length-set, replicate, length-replicate}
 use lib.Seq.{getD-set-same, getD-set-other}
 use Rattle.lists.specs.Choice.{if_then_else_}
-use Rattle.lists.specs.Tables.{table}
-use Rattle.lists.specs.Laws.TablesLaws.{zeros-at, getD-table, is-table, table-same}
-use Rattle.lists.specs.Pairs.{place}
-use Rattle.lists.specs.Laws.PairsLaws.{place-in}
-use Rattle.order_rules.specs.Laws.Members.{In, Below}
+use Rattle.lists.specs.Laws.TablesLaws.{zeros-at}
+use Rattle.lists.specs.Laws.PairsLaws.{row-of, column-of, cell-index}
+use Rattle.order_rules.specs.Laws.Members.{Below}
 use Rattle.order_rules.specs.Settle.{Rest, lower, settle, given, kept, unmet}
-use Rattle.order_rules.specs.Laws.SettleLaws.{settle-same}
-use Rattle.order.specs.Laws.KeptOrder.{turnsOf, Held}
+use Rattle.order.specs.Laws.KeptOrder.{turnsOf}
 
--- by generator what it gave and what it has left, and what nobody gives
-pub record Settled : Type 0 where
-  pub taken : List ℕ
-  pub rest : List ℕ
-  pub left : ℕ
+-- column c of a list of rows of m numbers
+unfoldable pub column : (m c : ℕ) → List ℕ → ℕ → ℕ
+column m c list g = getD list (g * m + c) 0
 
--- read from the arrays that the code leaves it in
-abbrev pub settledIn : List ℕ → List ℕ → ℕ → Settled
-settledIn taken has left = record { taken = taken; rest = has; left = left }
-
--- the settlement of what the rule `has` says the generators have
-unfoldable pub settledBy : List ℕ → (ℕ → ℕ) → ℕ → Settled
-settledBy gs has want = record { taken = table 8 (given gs has want); rest = table 8 (kept gs has want); left = unmet gs has want }
-
--- the settlement of stock that an array has
-unfoldable pub settled : List ℕ → List ℕ → ℕ → Settled
-settled gs stock want = settledBy gs (place 8 stock) want
-
--- an array made by a rule is settled by that rule, whatever the rule says beyond the array
-pub settled-table : (gs : List ℕ) (f : ℕ → ℕ) (want : ℕ) → Below 8 gs → settled gs (table 8 f) want ≡ settledBy gs f want
-unfolding settled settledBy given kept unmet
-settled-table gs f want b =
-    let e : (h : ℕ) → h < 8 → place 8 (table 8 f) h ≡ f h = λ h l. place-in 8 (table 8 f) h l ∙ getD-table 8 f h 0 l in
-    let s = settle-same 8 gs (place 8 (table 8 f)) f want want b e refl in
-    let t : table 8 (given gs (place 8 (table 8 f)) want) ≡ table 8 (given gs f want) = table-same 8 _ _ (λ h l. omega (arith, e h l, s .1 h l)) in
-    let r : table 8 (kept gs (place 8 (table 8 f)) want) ≡ table 8 (kept gs f want) = table-same 8 _ _ (s .1) in
-    λ i. record { taken = t i; rest = r i; left = s .0 i }
-
--- ---- the loop that settles
-
--- what settling in place starts from: an order, stock, and nothing taken
-pub record Stocked (a : List ℕ) (n : ℕ) (has taken : List ℕ) : Type 0 where
-  pub held : Held a n
-  pub size : length has ≡ 8
+-- what settling in place starts from: at most eight turns, each of a row that the list has, and nothing taken
+pub record Stocked (a : List ℕ) (n : ℕ) (list : List ℕ) (m c : ℕ) (taken : List ℕ) : Type 0 where
+  pub rows : ℕ
+  pub few : n ≤ 8
+  pub whole : length list ≡ rows * m
+  pub below : Below rows (turnsOf a n)
+  pub narrow : m ≤ 16
+  pub within : c < m
   pub nothing : taken ≡ replicate 8 0
 
--- stock after one giver's turn, as the code writes it
-place-set : (xs : List ℕ) (g x : ℕ) → g < 8 → length xs ≡ 8 → place 8 (set xs g (getD xs g 0 - x)) ≡ lower (place 8 xs) g x
-unfolding place lower
-place-set xs g x h s = fun-ext (λ i. go i (ltb i 8) refl (eqb i g) refl)
-  where
-    v : ℕ
-    v = getD xs g 0 - x
-
-    go : (i : ℕ) (t : Bool) → ltb i 8 ≡ t → (u : Bool) → eqb i g ≡ u →
-        (if t then getD (set xs g v) i 0 else 0) ≡ (if u then (if t then getD xs i 0 else 0) - x else (if t then getD xs i 0 else 0))
-    go i true d true e =
-        let q = eqb-true i g e in
-        ap (λ (k : ℕ). getD (set xs g v) k 0) q ∙ getD-set-same xs g v 0 (omega arith) ∙ ap (λ (k : ℕ). getD xs k 0 - x) (sym q)
-    go i true d false e = getD-set-other xs g i v 0 (eqb-false i g e)
-    go i false d true e = absurd (omega (arith, ltb-false i 8 d, eqb-true i g e))
-    go i false d false e = refl
+-- Those of gs, in their order, gave of column c to one who wanted `want`: what each of eight gave, what the column keeps, and what nobody
+-- gives. The other columns stay.
+pub record ColumnSettled (gs : List ℕ) (m c want : ℕ) (list list′ taken : List ℕ) (left : ℕ) : Type 0 where
+  pub taken-is : (g : ℕ) → g < 8 → getD taken g 0 ≡ given gs (column m c list) want g
+  pub kept-is : column m c list′ ≡ kept gs (column m c list) want
+  pub left-is : left ≡ unmet gs (column m c list) want
+  pub size : length list′ ≡ length list
+  pub other : (g x : ℕ) → x < m → (x ≡ c → ⊥) → getD list′ (g * m + x) 0 ≡ getD list (g * m + x) 0
 
 -- The invariant of the loop that settles in the order a: the first i places of a have not had their turn.
-pub record Settling (gs : List ℕ) (stock : List ℕ) (want : ℕ) (a has taken : List ℕ) (left i : ℕ) : Type 0 where
-  pub is : settle gs (place 8 stock) want ≡ settle (turnsOf a i) (place 8 has) left
-  pub held : Held a i
-  pub size : length has ≡ 8
+pub record Settling (gs : List ℕ) (m c want : ℕ) (stock a list taken : List ℕ) (left i : ℕ) : Type 0 where
+  pub is : settle gs (column m c stock) want ≡ settle (turnsOf a i) (column m c list) left
+  pub few : i ≤ 8
+  pub fits : (rows : ℕ) × ((length stock ≡ rows * m) × Below rows (turnsOf a i))
+  pub size : length list ≡ length stock
   pub room : length taken ≡ 8
-  pub both : (k : ℕ) → getD taken k 0 + getD has k 0 ≡ getD stock k 0
-  pub waiting : (k : ℕ) → In k (turnsOf a i) → getD taken k 0 ≡ 0
+  pub both : (g : ℕ) → getD taken g 0 + column m c list g ≡ column m c stock g
+  pub other : (g x : ℕ) → x < m → (x ≡ c → ⊥) → getD list (g * m + x) 0 ≡ getD stock (g * m + x) 0
 
-pub settle-start : {a stock taken : List ℕ} {want n : ℕ} → Stocked a n stock taken → Settling (turnsOf a n) stock want a stock taken want n
-settle-start {a} {stock} {taken} {want} {n} h =
-    let z : (k : ℕ) → getD taken k 0 ≡ 0 = λ k. rw (h .nothing) (zeros-at 8 k) in
+pub settle-start : {a stock taken : List ℕ} {m c want n : ℕ} → Stocked a n stock m c taken → Settling (turnsOf a n) m c want stock a stock taken want n
+settle-start {a} {stock} {taken} {m} {c} {want} {n} h =
     record {
       is = refl;
-      held = h .held;
-      size = h .size;
+      few = h .few;
+      fits = (h .rows, (h .whole, h .below));
+      size = refl;
       room = ap length (h .nothing) ∙ length-replicate {A = ℕ} 8 0;
-      both = λ k. omega (arith, z k);
-      waiting = λ k m. z k;
+      both = λ g. rw (h .nothing, zeros-at 8 g) (omega arith);
+      other = λ g x l ne. refl;
     }
 
-pub settle-step : {gs stock : List ℕ} {want : ℕ} {a has taken : List ℕ} {left i x : ℕ} → Settling gs stock want a has taken left i → 0 < i → x ≡ min (getD has (getD a (i - 1) 0 % 8) 0) left →
-    Settling gs stock want a (set has (getD a (i - 1) 0 % 8) (getD has (getD a (i - 1) 0 % 8) 0 - x)) (set taken (getD a (i - 1) 0 % 8) x) (left - x) (i - 1)
-unfolding turnsOf settle
-settle-step {i = zero} h l q = absurd (omega arith)
-settle-step {gs} {stock} {want} {a} {has} {taken} {left} {i = suc i} {x} h l q =
+module _ (m c : ℕ) (within : c < m) where
+  -- a place of the column is of one row only, and of no other column
+  same-row : (g k : ℕ) → g * m + c ≡ k * m + c → g ≡ k
+  same-row g k q = sym (row-of m g c within) ∙ ap (λ (i : ℕ). i / m) q ∙ row-of m k c within
+
+  same-column : (g x k : ℕ) → x < m → g * m + x ≡ k * m + c → x ≡ c
+  same-column g x k l q = sym (column-of m g x l) ∙ ap (λ (i : ℕ). i % m) q ∙ column-of m k c within
+
+  module _ (list : List ℕ) (g x : ℕ) (fits : g * m + c < length list) where
+    gave : List ℕ
+    gave = set list (g * m + c) (getD list (g * m + c) 0 - x)
+
+    gave-here : column m c gave g ≡ column m c list g - x
+    unfolding column gave
+    gave-here = getD-set-same list (g * m + c) (getD list (g * m + c) 0 - x) 0 fits
+
+    gave-there : (k : ℕ) → (k ≡ g → ⊥) → column m c gave k ≡ column m c list k
+    unfolding column gave
+    gave-there k ne = getD-set-other list (g * m + c) (k * m + c) (getD list (g * m + c) 0 - x) 0 (λ q. ne (same-row k g q))
+
+    -- the column after one giver's turn
+    gave-lower : column m c gave ≡ lower (column m c list) g x
+    unfolding lower
+    gave-lower = fun-ext (λ k. go k (eqb k g) refl)
+      where
+        go : (k : ℕ) (t : Bool) → eqb k g ≡ t → column m c gave k ≡ (if t then column m c list k - x else column m c list k)
+        go k true e = rw (eqb-true k g e) gave-here
+        go k false e = gave-there k (eqb-false k g e)
+
+-- the place of the giver whose turn is next
+abbrev pub giver : List ℕ → ℕ → ℕ
+giver a i = getD a (i - 1) 0 % 8
+
+pub giver-fits : {gs : List ℕ} {m c want : ℕ} {stock a list taken : List ℕ} {left i : ℕ} →
+    Settling gs m c want stock a list taken left i → c < m → 0 < i → giver a i * m + c < length list
+unfolding turnsOf
+giver-fits {i = zero} h b l = absurd (omega arith)
+giver-fits {m = m} {c = c} {a = a} {i = suc i} h b l =
     let e : suc i - 1 ≡ i = omega arith in
-    let low : g < 8 = omega arith in
-    let q′ : x ≡ min (place 8 has g) left = (rw e at q) ∙ ap (λ (y : ℕ). min y left) (sym (place-in 8 has g low)) in
+    rw e (omega (arith, h .size, h .fits .1 .0, cell-index (h .fits .0) m (getD a i 0 % 8) c (h .fits .1 .1 .0) b))
+
+pub giver-low : (a : List ℕ) (i m : ℕ) → m ≤ 16 → giver a i * m ≤ 128
+giver-low a i m l = let few : giver a i ≤ 8 = omega arith in mul-le-mul few l
+
+-- what a giver has given in all is no more than it had
+pub giver-had : {gs : List ℕ} {m c want : ℕ} {stock a list taken : List ℕ} {left i : ℕ} →
+    Settling gs m c want stock a list taken left i → (g x : ℕ) → x ≤ getD list (g * m + c) 0 → getD taken g 0 + x ≤ getD stock (g * m + c) 0
+unfolding column
+giver-had h g x l = omega (arith, h .both g)
+
+pub settle-step : {gs : List ℕ} {m c want : ℕ} {stock a list taken : List ℕ} {left i x : ℕ} →
+    Settling gs m c want stock a list taken left i → c < m → 0 < i → x ≡ min (getD list (giver a i * m + c) 0) left →
+    Settling gs m c want stock a (set list (giver a i * m + c) (getD list (giver a i * m + c) 0 - x)) (set taken (giver a i) (getD taken (giver a i) 0 + x)) (left - x) (i - 1)
+unfolding turnsOf settle column gave
+settle-step {i = zero} h b l q = absurd (omega arith)
+settle-step {gs} {m} {c} {want} {stock} {a} {list} {taken} {left} {i = suc i} {x} h b l q =
+    let e : suc i - 1 ≡ i = omega arith in
+    let fits : g * m + c < length list = rw e at (giver-fits h b l) in
+    let was : x ≡ min (getD list (g * m + c) 0) left = rw e at q in
     rw e
     (record {
-      is = rw (place-set has g x low (h .size), q′) (h .is);
-      held = record { few = omega (arith, h .held .few); apart = h .held .apart .1 };
-      size = length-set has g (getD has g 0 - x) ∙ h .size;
-      room = length-set taken g x ∙ h .room;
-      both = λ k. go k low (rw e at q) (eqb k g) refl;
-      waiting = λ k m. getD-set-other taken g k x 0 (λ r. h .held .apart .0 (subst (λ (y : ℕ). In y (turnsOf a i)) r m)) ∙ h .waiting k (inr m);
+      is = rw (gave-lower m c b list g x fits, was) (h .is);
+      few = omega (arith, h .few);
+      fits = (h .fits .0, (h .fits .1 .0, h .fits .1 .1 .1));
+      size = length-set list (g * m + c) (getD list (g * m + c) 0 - x) ∙ h .size;
+      room = length-set taken g (getD taken g 0 + x) ∙ h .room;
+      both = λ k. go k fits was (eqb k g) refl;
+      other = λ k y w ne. getD-set-other list (g * m + c) (k * m + y) (getD list (g * m + c) 0 - x) 0 (λ r. ne (same-column m c b k y g w r)) ∙ h .other k y w ne;
     })
   where
     g : ℕ
     g = getD a i 0 % 8
 
-    go : (k : ℕ) → g < 8 → x ≡ min (getD has g 0) left → (t : Bool) → eqb k g ≡ t → getD (set taken g x) k 0 + getD (set has g (getD has g 0 - x)) k 0 ≡ getD stock k 0
-    go k b m true e =
+    go : (k : ℕ) (fits : g * m + c < length list) → x ≡ min (getD list (g * m + c) 0) left → (t : Bool) → eqb k g ≡ t →
+        getD (set taken g (getD taken g 0 + x)) k 0 + column m c (gave m c b list g x fits) k ≡ column m c stock k
+    go k fits was true e =
         rw (eqb-true k g e)
-        (omega
-        (arith, getD-set-same taken g x 0 (omega (arith, h .room)), getD-set-same has g (getD has g 0 - x) 0 (omega (arith, h .size)), h .both g, h .waiting g (inl refl)))
-    go k b m false e =
-        let n = eqb-false k g e in
-        omega (arith, getD-set-other taken g k x 0 n, getD-set-other has g k (getD has g 0 - x) 0 n, h .both k)
+        (omega (arith, getD-set-same taken g (getD taken g 0 + x) 0 (omega (arith, h .room)), gave-here m c b list g x fits, h .both g))
+    go k fits was false e =
+        let ne = eqb-false k g e in
+        omega (arith, getD-set-other taken g k (getD taken g 0 + x) 0 ne, gave-there m c b list g x fits k ne, h .both k)
 
--- what the code leaves
-pub settle-done : {gs stock : List ℕ} {want : ℕ} {a has taken : List ℕ} {left i : ℕ} → Settling gs stock want a has taken left i → i ≤ 0 → settledIn taken has left ≡ settled gs stock want
-unfolding turnsOf settle settled settledBy given kept unmet
+pub settle-done : {gs : List ℕ} {m c want : ℕ} {stock a list taken : List ℕ} {left i : ℕ} → Settling gs m c want stock a list taken left i → i ≤ 0 → ColumnSettled gs m c want stock list taken left
+unfolding turnsOf settle given kept unmet
 settle-done {i = suc i} h l = absurd (omega arith)
-settle-done {gs} {stock} {want} {a} {has} {taken} {left} {i = zero} h l =
-    let rest : (k : ℕ) → k < 8 → getD has k 0 ≡ settle gs (place 8 stock) want .has k = λ k b. sym (place-in 8 has k b) ∙ sym (ap (λ (r : Rest). r .has k) (h .is)) in
-    let t = is-table 0 8 (given gs (place 8 stock) want) taken (h .room) (λ k b. omega (arith, h .both k, rest k b, place-in 8 stock k b)) in
-    let r = is-table 0 8 (kept gs (place 8 stock) want) has (h .size) rest in
-    let u : left ≡ unmet gs (place 8 stock) want = sym (ap (λ (r : Rest). r .want) (h .is)) in
-    λ j. record { taken = t j; rest = r j; left = u j }
+settle-done {gs} {m} {c} {want} {stock} {a} {list} {taken} {left} {i = zero} h l =
+    let rest : settle gs (column m c stock) want .has ≡ column m c list = ap (λ (r : Rest). r .has) (h .is) in
+    record {
+      taken-is = λ g b. omega (arith, h .both g, ap (λ (f : ℕ → ℕ). f g) rest);
+      kept-is = sym rest;
+      left-is = sym (ap (λ (r : Rest). r .want) (h .is));
+      size = h .size;
+      other = h .other;
+    }
