@@ -1,6 +1,6 @@
-pub mod ConsumerPut
-pub mod ConsumerPutLaws
 pub mod SettlementLent
-pub mod Settles
+pub mod ColumnGiven
 pub mod SettledTo
+pub mod Settles
+pub mod ConsumerPut
 pub mod SettledLaws

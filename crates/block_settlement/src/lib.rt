@@ -1,30 +1,61 @@
-// Rules 5 to 7 of a block, consumer by consumer, in the slice of its output.
+// Rules 5 to 7 of a block, consumer by consumer: each list of the output is settled or written in its own stretch, lent by itself.
 ghost use mathlib.Core.Path.{_≡_};
-ghost use Prim.Native.Nat.{ℕ, _+_, _*_, _<_, _≤_};
+ghost use Prim.Native.Nat.{ℕ, _+_, _*_, _<_};
 ghost use lib.ListN.{length};
+ghost use Rattle.order.specs.Laws.KeptOrder.{turnsOf};
 ghost use Rattle.block_rules.specs.Laws.DeliveredIn.{DeliveredIn};
-ghost use Rattle.block_rules.specs.Settlement.{blockOutput};
+ghost use Rattle.block_rules.specs.Settlement.{remainder, blockOutput};
 ghost use Rattle.record_layout.specs.OnBytes.{planIn};
 ghost use Rattle.block_settlement.specs.Laws.SettlementLent.{exitsIn, Ranked};
-ghost use Rattle.block_settlement.specs.Laws.SettledTo.{SettledTo};
-ghost use Rattle.block_settlement.specs.Laws.ConsumerPut.{ConsumerPut};
+ghost use Rattle.block_settlement.specs.Laws.ColumnGiven.{ColumnReady, ColumnGiven};
+ghost use Rattle.block_settlement.specs.Laws.SettledTo.{SettledTo, Remainders};
 
-// Rules 5 to 7 for consumer c, whose exit reading is `read`.
-fn settle_one(s: &[u8], n: usize, m: usize, c: usize, read: u64, out: &mut [u64])
+// Rule 7 for consumer c, in shortfall's stretch: of what is delivered too little, each generator's share of `want`. The result is the
+// remainder.
+fn settle_shortfall(
+    keys: &[usize; 8],
+    n: usize,
+    m: usize,
+    c: usize,
+    want: u64,
+    shortfall: &mut [u64],
+) -> u64
+    requires { ⌜ ColumnReady (now keys) n m c (now shortfall) ⌝ }
+    ensures { λ r. ⌜ ColumnGiven (turnsOf (now (keys .entry)) n) n m c want (now (shortfall .entry)) (now (shortfall .exit)) r ⌝ }
+{
+    let mut short = [0u64; 8];
+    let remainder = order::settle(keys, n, shortfall, m, c, &mut short, want);
+    output_lists::put_column(shortfall, n, m, c, &short);
+    remainder
+}
+
+// Rules 5 to 7 for consumer c, whose exit reading is `read`. What is delivered is settled where it stands, in underdrawn's stretch, so that
+// what is underdrawn stays there. The result is the remainder.
+fn settle_one(s: &[u8], n: usize, m: usize, c: usize, read: u64, out: &mut [u64]) -> u64
     requires { ⌜ Ranked (now s) n m × ((c < m) × (length (now out) ≡ 4 * (n * m) + n + m)) ⌝ }
-    ensures { λ _. ⌜ ((E R : ℕ → ℕ) → read ≡ R c → SettledTo (planIn (now (s .entry))) E R c (now (out .entry)) → SettledTo (planIn (now (s .entry))) E R (c + 1) (now (out .exit))) ⌝ }
+    ensures { λ r. ⌜ ((E R : ℕ → ℕ) → read ≡ R c → SettledTo (planIn (now (s .entry))) E R c (now (out .entry)) → SettledTo (planIn (now (s .entry))) E R (c + 1) (now (out .exit)) × (r ≡ remainder (planIn (now (s .entry))) E c (R c))) ⌝ }
 {
     let keys = record_order::turns_at(s, n, c);
     let size = n * m;
-    let mut has = [0u64; 8];
-    output_lists::get_column_at(out, 2 * size, n, m, c, &mut has);
+    let second = 2 * size;
+    let third = 3 * size;
+    let fourth = 4 * size;
     let mut taken = [0u64; 8];
-    let left = order::settle(&keys, n, &mut has, &mut taken, read);
-    let mut gap = [0u64; 8];
-    output_lists::get_column_at(out, 3 * size, n, m, c, &mut gap);
-    let mut short = [0u64; 8];
-    let rest = order::settle(&keys, n, &mut gap, &mut short, left);
-    put_settled(out, n, m, c, &taken, &has, &short, rest);
+    let left = order::settle(&keys, n, &mut out[second..third], m, c, &mut taken, read);
+    output_lists::put_column(&mut out[size..second], n, m, c, &taken);
+    settle_shortfall(&keys, n, m, c, left, &mut out[third..fourth])
+}
+
+// Rules 5 to 7 for all consumers, but for the list of remainders, which are gathered.
+fn settle_each(s: &[u8], n: usize, m: usize, exit: &[u32], out: &mut [u64], rests: &mut [u64; 16])
+    requires { ⌜ Ranked (now s) n m × ((length (now exit) ≡ m) × ((length (now out) ≡ 4 * (n * m) + n + m) × (length (now rests) ≡ 16))) ⌝ }
+    ensures { λ _. ⌜ (length (now (rests .exit)) ≡ 16) × ((E : ℕ → ℕ) → DeliveredIn (planIn (now (s .entry))) E (now (out .entry)) → SettledTo (planIn (now (s .entry))) E (exitsIn (now (s .entry)) (now (exit .entry))) m (now (out .exit)) × Remainders (planIn (now (s .entry))) E (exitsIn (now (s .entry)) (now (exit .entry))) m (now (rests .exit))) ⌝ }
+{
+    let mut c: usize = 0;
+    while c < m {
+        rests[c] = settle_one(s, n, m, c, lists::wide(exit[c]), out);
+        c += 1;
+    }
 }
 
 // Rules 5 to 7 of a block, in the slice in which rules 1 to 4, for whatever entry readings E, have left their figures.
@@ -32,30 +63,9 @@ pub fn settle_all(s: &[u8], n: usize, m: usize, exit: &[u32], out: &mut [u64])
     requires { ⌜ Ranked (now s) n m × ((length (now exit) ≡ m) × (length (now out) ≡ 4 * (n * m) + n + m)) ⌝ }
     ensures { λ _. ⌜ ((E : ℕ → ℕ) → DeliveredIn (planIn (now (s .entry))) E (now (out .entry)) → now (out .exit) ≡ blockOutput (planIn (now (s .entry))) E (exitsIn (now (s .entry)) (now (exit .entry)))) ⌝ }
 {
-    let mut c: usize = 0;
-    while c < m {
-        settle_one(s, n, m, c, lists::wide(exit[c]), out);
-        c += 1;
-    }
-}
-
-// Puts the figures of consumer c where the output has them: a column of each of three lists, and a place.
-pub fn put_settled(
-    out: &mut [u64],
-    n: usize,
-    m: usize,
-    c: usize,
-    setoff: &[u64; 8],
-    underdrawn: &[u64; 8],
-    shortfall: &[u64; 8],
-    remainder: u64,
-)
-    requires { ⌜ (length (now out) ≡ 4 * (n * m) + n + m) × ((n ≤ 8) × ((m ≤ 16) × (c < m))) ⌝ }
-    ensures { λ _. ⌜ ConsumerPut n m c (now (setoff .entry)) (now (underdrawn .entry)) (now (shortfall .entry)) remainder (now (out .entry)) (now (out .exit)) ⌝ }
-{
-    let size = n * m;
-    output_lists::put_column_at(out, size, n, m, c, setoff);
-    output_lists::put_column_at(out, 2 * size, n, m, c, underdrawn);
-    output_lists::put_column_at(out, 3 * size, n, m, c, shortfall);
-    output_lists::put_number_at(out, 4 * size + n, m, c, remainder);
+    let mut rests = [0u64; 16];
+    settle_each(s, n, m, exit, out, &mut rests);
+    let from = 4 * (n * m) + n;
+    let to = from + m;
+    output_lists::write_list(&mut out[from..to], &rests);
 }

@@ -1,14 +1,14 @@
-// Lists of a call's output, each put into its own stretch of the slice: whole, by column or by number.
+// Lists of a call's output, each put into its own stretch of the slice, whole or by column.
 ghost use mathlib.Core.Path.{_≡_};
 ghost use Prim.Native.Nat.{_+_, _*_, _<_, _≤_};
 ghost use lib.ListN.{length, getD, set};
 ghost use Rattle.lists.specs.Tables.{table};
 ghost use Rattle.lists.specs.Pairs.{cell, pairs};
 ghost use Rattle.output_lists.specs.Laws.ListPut.{Put};
-ghost use Rattle.output_lists.specs.Laws.Columns.{ColumnGot, ColumnPut, ColumnAt};
+ghost use Rattle.output_lists.specs.Laws.Columns.{ColumnPut};
 
 // Fills `out` with the first numbers of `xs`.
-fn write_list(out: &mut [u64], xs: &[u64])
+pub fn write_list(out: &mut [u64], xs: &[u64])
     requires { ⌜ length (now out) ≤ length (now xs) ⌝ }
     ensures { λ r. ⌜ now (out .exit) ≡ table (length (now (out .entry))) (λ i. getD (now (xs .entry)) i 0) ⌝ }
 {
@@ -64,18 +64,6 @@ pub fn put16(out: &mut [u64], at: usize, xs: &[u64; 16], n: usize)
     write_list(&mut out[at..end], xs);
 }
 
-// Reads column c of a list of n rows of m numbers into an array, which is lent so that it is not copied.
-pub fn get_column(list: &[u64], n: usize, m: usize, c: usize, xs: &mut [u64; 8])
-    requires { ⌜ (length (now list) ≡ n * m) × ((n ≤ 8) × ((m ≤ 16) × ((c < m) × (length (now xs) ≡ 8)))) ⌝ }
-    ensures { λ _. ⌜ ColumnGot n m 0 c (now (list .entry)) (now (xs .exit)) ⌝ }
-{
-    let mut g: usize = 0;
-    while g < n {
-        xs[g] = list[g * m + c];
-        g += 1;
-    }
-}
-
 // Puts a number for each of the n rows into column c.
 pub fn put_column(list: &mut [u64], n: usize, m: usize, c: usize, xs: &[u64; 8])
     requires { ⌜ (length (now list) ≡ n * m) × ((n ≤ 8) × ((m ≤ 16) × (c < m))) ⌝ }
@@ -96,24 +84,7 @@ fn put_number(list: &mut [u64], i: usize, x: u64)
     list[i] = x;
 }
 
-// The same three where the list is a stretch of the output, which starts at place `from`.
-pub fn get_column_at(out: &[u64], from: usize, n: usize, m: usize, c: usize, xs: &mut [u64; 8])
-    requires { ⌜ (from + n * m ≤ length (now out)) × ((n ≤ 8) × ((m ≤ 16) × ((c < m) × (length (now xs) ≡ 8)))) ⌝ }
-    ensures { λ _. ⌜ ColumnGot n m from c (now (out .entry)) (now (xs .exit)) ⌝ }
-{
-    let to = from + n * m;
-    get_column(&out[from..to], n, m, c, xs);
-}
-
-pub fn put_column_at(out: &mut [u64], from: usize, n: usize, m: usize, c: usize, xs: &[u64; 8])
-    requires { ⌜ (from + n * m ≤ length (now out)) × ((n ≤ 8) × ((m ≤ 16) × (c < m))) ⌝ }
-    ensures { λ _. ⌜ ColumnAt n m from c (now (xs .entry)) (now (out .entry)) (now (out .exit)) ⌝ }
-{
-    let to = from + n * m;
-    put_column(&mut out[from..to], n, m, c, xs);
-}
-
-// The list has `size` numbers.
+// The same where the list is a stretch of the output, which starts at place `from` and has `size` numbers.
 pub fn put_number_at(out: &mut [u64], from: usize, size: usize, i: usize, x: u64)
     requires { ⌜ (from + size ≤ length (now out)) × (i < size) ⌝ }
     ensures { λ _. ⌜ now (out .exit) ≡ set (now (out .entry)) (from + i) x ⌝ }

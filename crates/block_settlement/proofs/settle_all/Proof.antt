@@ -1,83 +1,67 @@
--- `block_settlement::settle_all` meets its contract: c consumers are settled. Assumes nothing.
-use Prim.Native.Nat.{ℕ, _-_, _≤_, _<_}
-use mathlib.Core.Path.{_≡_, refl, sym, _∙_}
+-- `block_settlement::settle_all` meets its contract: all consumers are settled, and their remainders stand in their list. Assumes nothing.
 use native.Mathlib.Omega.{arith}
 use borrow.Author.Needs.{needs}
-use lib.ListN.{length}
-use Rattle.lists.specs.Laws.PairsLaws.{place-in}
-use Rattle.block_rules.specs.Laws.DeliveredIn.{DeliveredIn}
-use Rattle.record_layout.specs.OnBytes.{planIn}
-use Rattle.block_settlement.specs.Laws.SettlementLent.{exitsIn}
-use Rattle.block_settlement.specs.Laws.SettledTo.{SettledTo}
-use Rattle.block_settlement.specs.Laws.SettledLaws.{settled-start, settled-done}
+use Rattle.block_settlement.specs.Laws.SettledLaws.{all-settled}
 use Rattle.block_settlement.proofs.settle_all.Statement.{statement}
 use Rattle.block_settlement.proofs.settle_all.Tie as tie
-use Rattle.block_settlement.proofs.settle_all.Reads as reads
-use Rattle.block_settlement.proofs.settle_all.Lts as lts
-use Rattle.block_settlement.proofs.settle_one.Reads as settle-one-reads
-use Rattle.lists.proofs.wide.Reads as wide-reads
 
-abbrev Inv-loop : tie.InvT-loop
-Inv-loop s n m exit out₀ c₀ out c =
-    ((E : ℕ → ℕ) → DeliveredIn (planIn s) E out₀ → SettledTo (planIn s) E (exitsIn s exit) c out) × ((c ≤ m) × (length out ≡ length out₀))
+settle-each-requires : tie.Need-settle-each-requires
+settle-each-requires c κs = search needs
 
-abbrev μ-loop : tie.MeasureT-loop
-μ-loop s n m exit out₀ c₀ out c = m - c
+mul-from : tie.Need-mul-from
+mul-from c = search needs
 
-loop-holds : tie.Need-loop-holds Inv-loop μ-loop
-loop-holds c = (λ E d. settled-start _ E _ d, (search needs, refl))
+mul-from-2 : tie.Need-mul-from-2
+mul-from-2 c = search needs
 
-mul-wide : tie.Need-mul-wide Inv-loop μ-loop
-mul-wide c = search needs
+add-from : tie.Need-add-from
+add-from c = search needs
 
-shared-slice-read-wide : tie.Need-shared-slice-read-wide Inv-loop μ-loop
-shared-slice-read-wide c = search needs
+add-to : tie.Need-add-to
+add-to c = search needs
 
-wide-requires : tie.Need-wide-requires Inv-loop μ-loop
-wide-requires c κs = search needs
+mul-write-list : tie.Need-mul-write-list
+mul-write-list c = search needs
 
-settle-one-requires : tie.Need-settle-one-requires Inv-loop μ-loop
-settle-one-requires c κs =
-    let turn = c .before .before .before in
-    let start = turn .before .before .before .before .before in
-    (start .pre .0, (turn .loop-test .taken, turn .before .loop .inv .1 .1 ∙ start .pre .1 .1))
+sub-write-list : tie.Need-sub-write-list
+sub-write-list c = search needs
 
-add-c : tie.Need-add-c Inv-loop μ-loop
-add-c c = search needs
+part-write-list-start : tie.Need-part-write-list-start
+part-write-list-start c = search needs
 
-loop-less : tie.Need-loop-less Inv-loop μ-loop
-loop-less c = search needs
+part-write-list-end : tie.Need-part-write-list-end
+part-write-list-end c = search needs
 
-loop-again : tie.Need-loop-again Inv-loop μ-loop
-loop-again c =
-    let one = c .before .before in
-    let turn = one .before .before .before .before in
-    let l = turn .before .loop in
-    let start = turn .before .before .before .before .before in
-    let s = start .args .s .now in
-    let inside : l .c < planIn s .C = omega (arith, turn .loop-test .taken, start .pre .0 .m-is) in
-    let read = one .before .before .wide .ensures ∙ sym (place-in (planIn s .C) (start .args .exit .now) (l .c) inside) in
-    (λ E d. one .«settle-one» .ensures E _ read (l .inv .0 E d), (omega (arith, turn .loop-test .taken), one .«settle-one» .kept .1 .1 .1 .1 .1 .0 ∙ l .inv .1 .1))
+slice-aggregate-write-list : tie.Need-slice-aggregate-write-list
+slice-aggregate-write-list c = search needs
 
-same-length : tie.Need-same-length Inv-loop μ-loop
-same-length c = c .before .loop .inv .1 .1
+write-list-requires : tie.Need-write-list-requires
+write-list-requires c κs = search needs
 
-returns : tie.Need-returns Inv-loop μ-loop
-returns c = λ E d. settled-done _ E _ (c .before .loop .inv .0 E d) (omega (arith, c .before .before .before .before .before .pre .0 .m-is))
+same-length : tie.Need-same-length
+same-length c = search needs
+
+returns : tie.Need-returns
+returns c =
+    let wrote = c .before .before in
+    let settled = wrote .before .before .before .before .before in
+    let start = settled .before .before .before .before .before .before in
+    λ E d. all-settled _ E _ (start .pre .0 .n-is) (start .pre .0 .m-is) (settled .settle-each .ensures .1 E d) (wrote .write-list .ensures)
 
 pub settle-all-spec : {M : Type 1} → statement M
 settle-all-spec =
     tie.close
     (tie.spec
-    Inv-loop
-    μ-loop
-    loop-holds
-    mul-wide
-    shared-slice-read-wide
-    wide-requires
-    settle-one-requires
-    add-c
-    loop-less
-    loop-again
+    settle-each-requires
+    mul-from
+    mul-from-2
+    add-from
+    add-to
+    mul-write-list
+    sub-write-list
+    part-write-list-start
+    part-write-list-end
+    slice-aggregate-write-list
+    write-list-requires
     same-length
     returns)

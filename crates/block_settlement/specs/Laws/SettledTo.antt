@@ -17,4 +17,7 @@ pub record SettledTo (p : Plan) (E R : ℕ → ℕ) (i : ℕ) (out : List ℕ) :
   pub shortfall-is : (g c : ℕ) → g < p .G → c < p .C → c < i → getD out (3 * (p .G * p .C) + (g * p .C + c)) 0 ≡ shortfall p E c (R c) g
   pub gap-is : (g c : ℕ) → g < p .G → c < p .C → i ≤ c → getD out (3 * (p .G * p .C) + (g * p .C + c)) 0 ≡ atExit p g (E g) c - delivered p g (E g) c
   pub unaccounted-is : (g : ℕ) → g < p .G → getD out (4 * (p .G * p .C) + g) 0 ≡ unaccounted p g (E g)
-  pub remainder-is : (c : ℕ) → c < p .C → c < i → getD out (4 * (p .G * p .C) + p .G + c) 0 ≡ remainder p E c (R c)
+
+-- their remainders, gathered in an array
+pub record Remainders (p : Plan) (E R : ℕ → ℕ) (i : ℕ) (rests : List ℕ) : Type 0 where
+  pub is : (c : ℕ) → c < i → getD rests c 0 ≡ remainder p E c (R c)

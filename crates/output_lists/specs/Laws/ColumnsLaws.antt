@@ -1,10 +1,10 @@
--- The laws by which columns of a list, and of a stretch that holds one, are read and put. Assumes nothing.
+-- The laws by which columns of a list, and of a stretch that holds one, are put. Assumes nothing.
 use Prim.Native.Nat.{ℕ, _+_, _-_, _*_, _/_, _%_, _≤_, _<_}
 use mathlib.Core.Path.{_≡_, refl, sym, ap, _∙_}
 use mathlib.Core.Bool.{Bool, true, false}
 use mathlib.Core.List.{List}
 use mathlib.Core.Logic.{⊎-elim}
-use native.Mathlib.Nat.{eq-or-lt-of-le, eq-zero-or-pos, mul-le-mul, zero-add}
+use native.Mathlib.Nat.{eq-or-lt-of-le, eq-zero-or-pos, mul-le-mul}
 use native.Mathlib.Omega.{arith}
 use borrow.Author.Tests.{eqb-true, eqb-false}
 use lib.Dec.{eqb}
@@ -12,11 +12,11 @@ use lib.ListN.{length, getD, drop, set, length-set, replicate, length-replicate}
 use lib.Seq.{ext-getD, getD-set-same, getD-set-other, getD-take, getD-drop}
 use borrow.Rule.Slice.PartMut.{midOf, putMid, mid-len, same-len-mid}
 use Rattle.lists.specs.Tables.{table}
-use Rattle.lists.specs.Laws.TablesLaws.{getD-table, is-table, zeros-at, Filling, filled-before, fill-length}
+use Rattle.lists.specs.Laws.TablesLaws.{getD-table, is-table, zeros-at}
 use Rattle.lists.specs.Pairs.{pairs}
 use Rattle.lists.specs.Laws.PairsLaws.{pairs-table, row-of, column-of, cell-index}
 use Rattle.output_lists.specs.Laws.ListPutLaws.{put-within, put-before, put-after}
-use Rattle.output_lists.specs.Laws.Columns.{ColumnGot, ColumnPut, ColumnAt, Columns}
+use Rattle.output_lists.specs.Laws.Columns.{ColumnPut, ColumnNow, ColumnAt, Columns}
 
 pub put-start : {n w : ℕ} {m : List ℕ} {c : ℕ} {xs : List ℕ} → length m ≡ n * w → ColumnPut n w m c xs 0 m
 put-start z = record { size = z; here = λ g l. absurd (omega arith); other = λ g x l b e. refl }
@@ -40,13 +40,8 @@ put-step {n} {w} {m} {m′} {c} {xs} {k} {v} h a b e =
     same-column : (g x k : ℕ) → g * w + x ≡ k * w + c → x < w → x ≡ c
     same-column g x k q l = sym (column-of w g x l) ∙ ap (λ (i : ℕ). i % w) q ∙ column-of w k c a
 
--- a loop that has read the whole column
-pub column-read : {n w c : ℕ} {list l xs : List ℕ} {i : ℕ} → Filling 8 (λ g. getD list (g * w + c) 0) l i xs → n ≤ i → ColumnGot n w 0 c list xs
-column-read {n} {w} {c} {list} {l} {xs} {i} h all =
-    record {
-      size = fill-length h;
-      at = λ g b. rw zero-add (ap (λ (ys : List ℕ). getD ys g 0) (h .is) ∙ filled-before l i (λ g. getD list (g * w + c) 0) g 0 (omega arith));
-    }
+pub put-now : {n w : ℕ} {m m′ : List ℕ} {c : ℕ} {xs : List ℕ} → ColumnPut n w m c xs n m′ → ColumnNow n w c (λ g. getD xs g 0) m m′
+put-now h = record { size = h .size; here = h .here; other = h .other }
 
 -- a place of a list of at most 8 rows of 16
 pub record Spot (n w g c : ℕ) : Type 0 where
@@ -65,11 +60,12 @@ module _ (n w o e c : ℕ) (whole : o + n * w ≡ e) (in-column : c < w) where
   width : e - o ≡ n * w
   width = omega (arith, whole)
 
-  stretch-at : (out : List ℕ) (g x : ℕ) → g < n → x < w → getD (midOf o (e - o) out) (g * w + x) 0 ≡ getD out (o + (g * w + x)) 0
+  pub stretch-at : (out : List ℕ) (g x : ℕ) → g < n → x < w → getD (midOf o (e - o) out) (g * w + x) 0 ≡ getD out (o + (g * w + x)) 0
   stretch-at out g x l b = getD-take (e - o) (drop o out) (g * w + x) 0 (omega (arith, width, cell-index n w g x l b)) ∙ getD-drop o out (g * w + x) 0
 
-  pub column-put : {xs out ys : List ℕ} → e ≤ length out → ColumnPut n w (midOf o (e - o) out) c xs n ys → ColumnAt n w o c xs out (putMid o (e - o) out ys)
-  column-put {xs} {out} {ys} fits h =
+  -- the stretch was lent, and came back with another column c
+  pub column-lent : {f : ℕ → ℕ} {out ys : List ℕ} → e ≤ length out → ColumnNow n w c f (midOf o (e - o) out) ys → ColumnAt n w o c f out (putMid o (e - o) out ys)
+  column-lent {f} {out} {ys} fits h =
       let from : o ≤ length out = omega (arith, whole, fits) in
       let size : length ys ≡ e - o = omega (arith, h .size, width) in
       let at : (g x : ℕ) → g < n → x < w → getD (putMid o (e - o) out ys) (o + (g * w + x)) 0 ≡ getD ys (g * w + x) 0 =
@@ -81,10 +77,6 @@ module _ (n w o e c : ℕ) (whole : o + n * w ≡ e) (in-column : c < w) where
         before = λ k l. put-before o (e - o) out ys k from l;
         after = λ k l. put-after o (e - o) out ys k from size (omega (arith, width));
       }
-
-  -- a column read from the stretch
-  pub column-got : {out xs : List ℕ} → ColumnGot n w 0 c (midOf o (e - o) out) xs → ColumnGot n w o c out xs
-  column-got {out} h = record { size = h .size; at = λ g l. h .at g l ∙ rw zero-add (stretch-at out g c l in-column) }
 
 -- ---- one number put into the stretch of a slice from place o on and before place e
 
