@@ -65,6 +65,10 @@ module _ (rule : Rule) (r : Record) where
   unfolding outputAfter
   output-refused lent e = rw (ne-eqb (numberOn rule r) 0 e)
 
+  -- what an accepted call makes of a record's figures is sound
+  pub accepted-keeps : Keeps rule → numberOn rule r ≡ 0 → Facts (rule .after (figures r))
+  accepted-keeps keeps z = let s = accepted-sound z in keeps (figures r) (record-facts r s) (sym (number-sound s) ∙ z)
+
   -- Soundness is kept from any sound record, by every call, refused or accepted.
   pub stays-sound : Keeps rule → sound (figures r) ≡ true → sound (figures (recordAfter rule r)) ≡ true
   stays-sound keeps e = go (eqb (numberOn rule r) 0) refl
@@ -72,8 +76,23 @@ module _ (rule : Rule) (r : Record) where
       go : (t : Bool) → eqb (numberOn rule r) 0 ≡ t → sound (figures (recordAfter rule r)) ≡ true
       go true q =
           let z = eqb-true (numberOn rule r) 0 q in
-          rw (record-accepted z) (stored-sound (rule .after (figures r)) (keeps (figures r) (record-facts r e) (sym (number-sound e) ∙ z)))
+          rw (record-accepted z) (stored-sound (rule .after (figures r)) (accepted-keeps keeps z))
       go false q = rw (record-refused (eqb-false (numberOn rule r) 0 q)) e
+
+-- ---- from what a call gave
+
+module _ {rule : Rule} {r : Record} {lent : List ℕ} {number : ℕ} {r′ : Record} {out′ : List ℕ} (c : Called rule r lent number r′ out′) where
+  pub refused-record : (number ≡ 0 → ⊥) → r′ ≡ r
+  refused-record not-0 = c .record-is ∙ record-refused rule r (λ z. not-0 (c .number-is ∙ z))
+
+  pub accepted-output : number ≡ 0 → out′ ≡ rule .output (figures r)
+  accepted-output z = c .output-is ∙ output-accepted rule r lent (sym (c .number-is) ∙ z)
+
+  -- the figures of the record that it left are what the rule makes of those before
+  pub accepted-figures : Keeps rule → number ≡ 0 → figures r′ ≡ rule .after (figures r)
+  accepted-figures keeps z =
+      let e : numberOn rule r ≡ 0 = sym (c .number-is) ∙ z in
+      ap figures (c .record-is ∙ record-accepted rule r e) ∙ figures-stored (rule .after (figures r)) (facts-cut (rule .after (figures r)) (accepted-keeps rule r keeps e))
 
 -- ---- a call on the record stored of a book
 

@@ -9,7 +9,7 @@ use Rattle.codec.specs.Bytes.{encode}
 use Rattle.record.specs.RecordWords.{words}
 use Rattle.record.specs.Stored.{figures, stored}
 use Rattle.record.specs.Called.{Rule, numberOn, recordAfter, Called}
-use Rattle.record.specs.Laws.CalledLaws.{Keeps, accepted-sound, number-sound, record-facts, record-accepted, record-refused, output-accepted, output-refused}
+use Rattle.record.specs.Laws.CalledLaws.{Keeps, accepted-keeps, record-accepted, record-refused, output-accepted, output-refused}
 use Rattle.record.specs.declared.Record.{Record}
 use Rattle.record_layout.specs.OnBytes.{recordIn, bytesAfter, CalledOn, bookIn}
 use Rattle.record_layout.specs.Laws.LayoutLaws.{record-of-bytes}
@@ -40,9 +40,8 @@ on-struct {rule} {bytes} {lent} {bytes′} {out} {n} r after keeps e loaded c =
     go : (t : Bool) → eqb n 0 ≡ t → recordIn bytes′ ≡ recordAfter rule here
     go true q =
         let z = sym (c .number-is) ∙ eqb-true n 0 q in
-        let sound = accepted-sound rule here z in
         let given = rw (eq-eqb n 0 (eqb-true n 0 q)) at (c .record-is) in
-        ap recordIn given ∙ record-of-bytes (rule .after (figures here)) (keeps (figures here) (record-facts here sound) (sym (number-sound rule here sound) ∙ z)) ∙ sym (record-accepted rule here z)
+        ap recordIn given ∙ record-of-bytes (rule .after (figures here)) (accepted-keeps rule here keeps z) ∙ sym (record-accepted rule here z)
     go false q =
         let no = eqb-false n 0 q in
         let same = rw (ne-eqb n 0 no) at (c .record-is) in
