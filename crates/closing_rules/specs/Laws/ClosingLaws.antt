@@ -87,6 +87,15 @@ module _ (b : Book) where
       (only-sorted (standing (b .plan) c) (λ g. eqb (b .plan .link g c) 1) (order (b .plan) c) (order-sorted (standing (b .plan) c) (b .plan .G)))
       (supplier-in g c hg lg) (supplier-in h c hh lh) a l
 
+  -- nothing is pending then, and nothing open
+  pub none-pending : (g : ℕ) → generatorAfterClosing b g .pending ≡ 0
+  unfolding generatorAfterClosing
+  none-pending g = refl
+
+  pub none-open : (c : ℕ) → consumerAfterClosing b c .outstanding ≡ 0
+  unfolding consumerAfterClosing
+  none-open c = refl
+
   -- ---- soundness
 
   gone-less : Facts b → goneAfter b < b .cycle

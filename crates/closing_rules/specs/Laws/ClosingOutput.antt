@@ -82,10 +82,18 @@ module _ (b : Book) where
       ap (λ (i : ℕ). getD (closingOutput b) i 0) e ∙ after-charge (b .plan .G + g) ∙ after-lapsed g ∙
       joined-here (table (b .plan .G) (bankAfter b)) (opens ∷ fromSupplied) g (omega (arith, length-table (b .plan .G) (bankAfter b))) ∙ getD-table (b .plan .G) (bankAfter b) g 0 h
 
+  after-bank : (i : ℕ) → getD (closingOutput b) (b .plan .G * b .plan .C + 3 * b .plan .G + i) 0 ≡ getD (joined (opens ∷ fromSupplied)) i 0
+  after-bank i =
+      let e : b .plan .G * b .plan .C + 3 * b .plan .G + i ≡ b .plan .G * b .plan .C + (b .plan .G + (b .plan .G + (b .plan .G + i))) = omega arith in
+      ap (λ (k : ℕ). getD (closingOutput b) k 0) e ∙ after-charge (b .plan .G + (b .plan .G + i)) ∙ after-lapsed (b .plan .G + i) ∙
+      joined-later (table (b .plan .G) (bankAfter b)) (opens ∷ fromSupplied) (b .plan .G) i (length-table (b .plan .G) (bankAfter b))
+
+  pub open-at : (c : ℕ) → c < b .plan .C → getD (closingOutput b) (b .plan .G * b .plan .C + 3 * b .plan .G + c) 0 ≡ b .con c .outstanding
+  open-at c h =
+      after-bank c ∙ joined-here opens fromSupplied c (omega (arith, length-table (b .plan .C) (λ c. b .con c .outstanding))) ∙ getD-table (b .plan .C) (λ c. b .con c .outstanding) c 0 h
+
   pub supplied-at : (c : ℕ) → c < b .plan .C → getD (closingOutput b) (b .plan .G * b .plan .C + 3 * b .plan .G + b .plan .C + c) 0 ≡ supplied b c
   supplied-at c h =
-      let e : b .plan .G * b .plan .C + 3 * b .plan .G + b .plan .C + c ≡ b .plan .G * b .plan .C + (b .plan .G + (b .plan .G + (b .plan .G + (b .plan .C + c)))) = omega arith in
-      ap (λ (i : ℕ). getD (closingOutput b) i 0) e ∙ after-charge (b .plan .G + (b .plan .G + (b .plan .C + c))) ∙ after-lapsed (b .plan .G + (b .plan .C + c)) ∙
-      joined-later (table (b .plan .G) (bankAfter b)) (opens ∷ fromSupplied) (b .plan .G) (b .plan .C + c) (length-table (b .plan .G) (bankAfter b)) ∙
-      joined-later opens fromSupplied (b .plan .C) c (length-table (b .plan .C) (λ c. b .con c .outstanding)) ∙
+      let e : b .plan .G * b .plan .C + 3 * b .plan .G + b .plan .C + c ≡ b .plan .G * b .plan .C + 3 * b .plan .G + (b .plan .C + c) = omega arith in
+      ap (λ (k : ℕ). getD (closingOutput b) k 0) e ∙ after-bank (b .plan .C + c) ∙ joined-later opens fromSupplied (b .plan .C) c (length-table (b .plan .C) (λ c. b .con c .outstanding)) ∙
       joined-here (table (b .plan .C) (supplied b)) [] c (omega (arith, length-table (b .plan .C) (supplied b))) ∙ getD-table (b .plan .C) (supplied b) c 0 h
