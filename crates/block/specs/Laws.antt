@@ -1,1 +1,3 @@
 pub mod BlockReady
+pub mod Published
+pub mod BlockPublishes

@@ -1,1 +1,2 @@
+pub mod BlockAnswer
 pub mod Laws

@@ -109,7 +109,7 @@ opened-kept o p =
 
 -- ---- one call
 
-call-of : (r : Record) (a : Ask) (w : Given) → Done r a w → Called (ruleOf (callOf a)) r (lentOf a) (w .answer .number) (w .answer .after) (w .out)
+pub call-of : (r : Record) (a : Ask) (w : Given) → Done r a w → Called (ruleOf (callOf a)) r (lentOf a) (w .answer .number) (w .answer .after) (w .out)
 unfolding Done ruleOf callOf lentOf
 call-of r (askSchedule kws ranks) w d = record { number-is = d .0 .number-is; record-is = d .0 .record-is; output-is = d .1 ∙ d .0 .output-is }
 call-of r (askBlock entry exit lent) w d = d
@@ -249,7 +249,7 @@ module _ (o : Opening) (p : Permitted o) (number : ℕ) (r₀ : Record) (start :
   accepted : number ≡ 0
   accepted = start .number-is ∙ permitted-accepted o p
 
-  starts : r₀ ≡ stored (opened o)
+  pub starts : r₀ ≡ stored (opened o)
   starts = start .record-is ∙ rw (eq-eqb (openingRefusal o) 0 (permitted-accepted o p))
 
   module _ (asks : List Ask) (ws : List Given) (t : Trace r₀ asks ws) where
