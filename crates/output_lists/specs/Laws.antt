@@ -2,6 +2,7 @@ pub mod Bounds
 pub mod BoundsLaws
 pub mod ListPut
 pub mod ListPutLaws
+pub mod StretchPlaces
 pub mod StretchesWritten
 pub mod RowsWritten
 pub mod Stretches

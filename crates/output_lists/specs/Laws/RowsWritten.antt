@@ -7,13 +7,12 @@ use native.Mathlib.Nat.{mul-le-mul, mul-le-mul-right, suc-mul}
 use native.Mathlib.Omega.{arith}
 use lib.ListN.{length, getD, drop}
 use lib.Seq.{getD-take, getD-drop}
-use borrow.Rule.Slice.PartMut.{putMid, midOf}
+use borrow.Rule.Slice.PartMut.{putMid, midOf, mid-len}
 use Rattle.lists.specs.Tables.{table}
-use Rattle.lists.specs.Laws.TablesLaws.{table-same}
+use Rattle.lists.specs.Laws.TablesLaws.{length-table, table-same}
 use Rattle.lists.specs.Pairs.{cell, pairs, joined}
 use Rattle.lists.specs.Laws.PairsLaws.{cell-in}
-use Rattle.output_lists.specs.Laws.ListPutLaws.{lent-list}
-use Rattle.output_lists.specs.Laws.StretchesWritten.{Written, joined-more, written-none, written-put, written-length, written-all}
+use Rattle.output_lists.specs.Laws.StretchesWritten.{Written, joined-more, written-none, written-more, written-length, written-all}
 
 -- rows one after the other are a pair list
 joined-rows : (n w : ℕ) (f : ℕ → ℕ → ℕ) → joined (table n (λ g. table w (f g))) ≡ pairs n w f
@@ -43,18 +42,30 @@ row-small h l p q = omega (arith, row-fits h l, h .whole, mul-le-mul p q)
 pub rows-length : {n w : ℕ} {f : ℕ → ℕ → ℕ} {o : List ℕ} {g at : ℕ} {xs : List ℕ} → WritingRows n w f o g at xs → length xs ≡ length o
 rows-length {n} {w} {g} h = written-length (h .written) (omega (arith, mul-le-mul-right w (h .within), h .whole, h .stands))
 
--- the row was lent and came back as ys, copied from a list whose first w numbers are the row's
-pub rows-step : {n w : ℕ} {f : ℕ → ℕ → ℕ} {o : List ℕ} {g at : ℕ} {xs ys : List ℕ} (h : ℕ → ℕ) →
-    WritingRows n w f o g at xs → g < n → ys ≡ table (length (midOf at (at + w - at) xs)) h → table w h ≡ table w (f g) →
-    WritingRows n w f o (g + 1) (at + w) (putMid at (at + w - at) xs ys)
+-- the next row's stretch ends within the slice, and is small
+pub row-room : {n w : ℕ} {f : ℕ → ℕ → ℕ} {o : List ℕ} {g at : ℕ} {xs : List ℕ} →
+    WritingRows n w f o g at xs → g < n → n ≤ 8 → w ≤ 16 → (at + w ≤ 128) × (at + w ≤ length xs)
+row-room h l p q = (row-small h l p q, omega (arith, row-fits h l, rows-length h))
+
+-- the row's stretch was lent and came back as ys
+pub rows-put : {n w : ℕ} {f : ℕ → ℕ → ℕ} {o : List ℕ} {g at : ℕ} {xs ys : List ℕ} →
+    WritingRows n w f o g at xs → g < n → ys ≡ table w (f g) → WritingRows n w f o (g + 1) (at + w) (putMid at (at + w - at) xs ys)
 unfolding table
-rows-step {n} {w} {f} {o} {g} {at} {xs} {ys} h r l e s =
+rows-put {n} {w} {f} {o} {g} {at} r l e =
     record {
       within = omega arith;
       whole = r .whole;
       stands = rw add-one (omega (arith, suc-mul g w, r .stands));
-      written = rw (add-one, ← (s)) (written-put (r .written) (lent-list h e (omega (arith, row-fits r l, rows-length r))) refl);
+      written = rw add-one (written-more (at + w) (r .written) e (omega (arith, length-table w (f g))));
     }
+
+-- it came back as a copy of a list whose first w numbers are the row's
+pub rows-step : {n w : ℕ} {f : ℕ → ℕ → ℕ} {o : List ℕ} {g at : ℕ} {xs ys : List ℕ} (h : ℕ → ℕ) →
+    WritingRows n w f o g at xs → g < n → ys ≡ table (length (midOf at (at + w - at) xs)) h → table w h ≡ table w (f g) →
+    WritingRows n w f o (g + 1) (at + w) (putMid at (at + w - at) xs ys)
+rows-step {w = w} {at = at} {xs} h r l e s =
+    let size : length (midOf at (at + w - at) xs) ≡ w = mid-len at (at + w) xs (omega (arith, row-fits r l, rows-length r)) ∙ omega arith in
+    rows-put r l (e ∙ ap (λ (i : ℕ). table i h) size ∙ s)
 
 pub rows-done : {n w : ℕ} {f : ℕ → ℕ → ℕ} {o : List ℕ} {g at : ℕ} {xs : List ℕ} → WritingRows n w f o g at xs → n ≤ g → xs ≡ pairs n w f
 rows-done {n} {w} {f} {o} {g} {at} {xs} r l =
