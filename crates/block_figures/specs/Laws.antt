@@ -1,3 +1,3 @@
 pub mod CountingLaws
-pub mod OnePair
-pub mod OnePairLaws
+pub mod Gap
+pub mod GapLaws

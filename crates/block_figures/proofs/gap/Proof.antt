@@ -2,7 +2,7 @@
 use native.Mathlib.Omega.{arith}
 use borrow.Author.Needs.{needs}
 use Rattle.energy.specs.Laws.EnergyLaws.{loss-le}
-use Rattle.block_figures.specs.Laws.OnePairLaws.{gap-deemed, gap-scheduled}
+use Rattle.block_figures.specs.Laws.GapLaws.{gap-deemed, gap-scheduled}
 use Rattle.block_figures.proofs.gap.Statement.{statement}
 use Rattle.block_figures.proofs.gap.Tie as tie
 

@@ -3,7 +3,7 @@ use Prim.Native.Nat.{ℕ, _-_}
 use mathlib.Core.Path.{_≡_}
 use borrow.Author.Tests.{eq-eqb, ne-eqb}
 use Rattle.energy.specs.Energy.{afterLoss}
-use Rattle.block_figures.specs.Laws.OnePair.{gapOf}
+use Rattle.block_figures.specs.Laws.Gap.{gapOf}
 
 module _ (kind scheduled rate delivered : ℕ) where
   pub gap-deemed : (kind ≡ 0 → ⊥) → 0 ≡ gapOf kind scheduled rate delivered
