@@ -2,4 +2,4 @@ pub mod DeliveryLent
 pub mod DeliveryLentLaws
 pub mod DeliveryRows
 pub mod DeliveryRowLaws
-pub mod DeliveryFilling
+pub mod DeliveryLists

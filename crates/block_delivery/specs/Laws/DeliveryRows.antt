@@ -1,36 +1,46 @@
--- The row of one generator as the code has it. Assumes nothing.
-use Prim.Native.Nat.{ℕ, _+_, _*_, _≤_, _<_}
-use mathlib.Core.List.{List}
+-- The rows of the generators as the code has them, and what rules 3 and 4 ask of the record. Assumes nothing.
+use Prim.Native.Nat.{ℕ, _≤_, _<_}
+use mathlib.Core.List.{List, []}
 use mathlib.Core.Path.{_≡_}
 use lib.ListN.{length, getD}
-use Rattle.lists.specs.Sums.{sum}
 use Rattle.lists.specs.Tables.{table}
-use Rattle.lists.specs.Pairs.{place}
-use Rattle.energy.specs.Limits.{mostGenerators, mostConsumers, mostCapacity}
-use Rattle.record.specs.Plan.{Plan, scheduled}
+use Rattle.energy.specs.Energy.{quarterHour, afterLoss}
+use Rattle.energy.specs.Limits.{mostConsumers, mostCapacity, mostLoss, mostReading}
+use Rattle.record.specs.Plan.{Plan}
 use Rattle.block_rules.specs.Delivery.{partOf}
-use Rattle.block_figures.specs.Laws.OnePair.{PairReady}
+use Rattle.block_figures.specs.Laws.Gap.{gapOf}
 use Rattle.record_layout.specs.OnBytes.{planIn}
 use Rattle.record_places.specs.RecordSize.{recordBytes}
 
--- what rule 1 asks of it: its kW, added up
-pub record CountReady (s : List ℕ) (g : ℕ) (row : List ℕ) : Type 0 where
-  pub whole : length s ≡ recordBytes
-  pub g-high : g < mostGenerators
-  pub scheduled-is : sum 16 (place 16 row) ≡ scheduled (planIn s) g
-  pub scheduled-high : sum 16 (place 16 row) ≤ mostCapacity
+-- figure c of row g
+abbrev pub figure : List (List ℕ) → ℕ → ℕ → ℕ
+figure rows g c = getD (getD rows g []) c 0
 
--- its kind, its kW, and its energy as rules 1 and 2 share it for the reading e
-pub record RowOf (p : Plan) (g e kind : ℕ) (row parts : List ℕ) : Type 0 where
-  pub kind-is : kind ≡ p .kind g
-  pub row-is : row ≡ table 16 (p .kw g)
-  pub parts-are : parts ≡ table 16 (partOf p g e)
+-- Rule 4 for a pair of which d is delivered, less that.
+abbrev pub gapAt : Plan → ℕ → ℕ → ℕ → ℕ
+gapAt p g c d = gapOf (p .kind g) (quarterHour (p .kw g c)) (p .loss g c) d
 
--- what rules 3 and 4 ask of it
-pub record RowReady (s : List ℕ) (n m g kind : ℕ) (row parts out : List ℕ) : Type 0 where
+-- m consumers and figures within the limits
+pub record Limited (s : List ℕ) (m : ℕ) : Type 0 where
   pub whole : length s ≡ recordBytes
-  pub one-of-n : g < n
-  pub n-high : n ≤ mostGenerators
   pub m-high : m ≤ mostConsumers
-  pub room : length out ≡ 4 * (n * m) + n + m
-  pub pairs-ready : (c : ℕ) → c < m → PairReady kind (getD row c 0) (getD parts c 0) (planIn s .loss g c)
+  pub kw-high : (g c : ℕ) → planIn s .kw g c ≤ mostCapacity
+  pub loss-high : (g c : ℕ) → planIn s .loss g c ≤ mostLoss
+
+-- rules 1 and 2: the parts of n generators for the entry readings E
+pub record Shared (p : Plan) (E : ℕ → ℕ) (n : ℕ) (parts : List (List ℕ)) : Type 0 where
+  pub size : length parts ≡ 8
+  pub row-is : (g : ℕ) → g < n → getD parts g [] ≡ table 16 (partOf p g (E g))
+
+-- what rule 3 asks of the parts of one generator for m consumers, and of n generators
+pub record LossRow (m : ℕ) (parts : List ℕ) : Type 0 where
+  pub size : length parts ≡ 16
+  pub high : (c : ℕ) → c < m → getD parts c 0 ≤ mostReading
+
+pub record LossRows (n m : ℕ) (parts : List (List ℕ)) : Type 0 where
+  pub size : length parts ≡ 8
+  pub row : (g : ℕ) → g < n → LossRow m (getD parts g [])
+
+-- what rule 3 leaves of them
+pub record Lessened (p : Plan) (n m : ℕ) (parts after : List (List ℕ)) : Type 0 where
+  pub at : (g c : ℕ) → g < n → c < m → figure after g c ≡ afterLoss (figure parts g c) (p .loss g c)
