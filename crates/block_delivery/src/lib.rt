@@ -66,13 +66,7 @@ fn counted_at(s: &[u8], g: usize, row: [u32; 16], reading: u32) -> u32
 
 // Rules 1 and 2: the parts of each generator, a row each, and in `out` the list of what does not count. The rows are lent, not returned,
 // so that they are not copied; those from n on stay as they were.
-fn share_rows(
-    s: &[u8],
-    n: usize,
-    entry: &[u32],
-    parts: &mut [[u32; 16]; 8],
-    out: &mut [u64],
-)
+fn share_rows(s: &[u8], n: usize, entry: &[u32], parts: &mut [[u32; 16]; 8], out: &mut [u64])
     requires { ⌜ Ready (now s) n (planIn (now s) .C) (now entry) × ((length (now parts) ≡ 8) × (length (now out) ≡ n)) ⌝ }
     ensures { λ _. ⌜ (now (out .exit) ≡ table n (λ g. unaccounted (planIn (now (s .entry))) g (entriesIn (now (s .entry)) (now (entry .entry)) g))) × Shared (planIn (now (s .entry))) (entriesIn (now (s .entry)) (now (entry .entry))) n (now (parts .exit)) ⌝ }
 {

@@ -26,6 +26,13 @@ limited {s} {entry} r =
     let d = r .deliverable in
     record { whole = r .whole; m-high = omega (arith, r .m-is, d .C-high); kw-high = kw-high (planIn s) (entriesIn s entry) d; loss-high = d .loss-high }
 
+pub all-consumers : {s entry : List ℕ} {n m : ℕ} → Ready s n m entry → Ready s n (planIn s .C) entry
+all-consumers r = rw (r .m-is) at r
+
+-- the output keeps its length
+pub same-size : {p : Plan} {E : ℕ → ℕ} {n m k : ℕ} {out : List ℕ} → n ≡ p .G → m ≡ p .C → k ≡ 4 * (n * m) + n + m → DeliveredIn p E out → length out ≡ k
+same-size a b l d = d .size ∙ sym (l ∙ (λ i. 4 * (a i * b i) + a i + b i))
+
 module _ {p : Plan} {E : ℕ → ℕ} {n m : ℕ} (d : Deliverable p E) (G-is : n ≡ p .G) (C-is : m ≡ p .C) {parts : List (List ℕ)} (shared : Shared p E n parts) where
   part-of : (g c : ℕ) → g < n → c < m → figure parts g c ≡ partOf p g (E g) c
   part-of g c k l = ap (λ (row : List ℕ). getD row c 0) (shared .row-is g k) ∙ getD-table 16 (partOf p g (E g)) c 0 (omega (arith, d .C-high))
@@ -36,10 +43,10 @@ module _ {p : Plan} {E : ℕ → ℕ} {n m : ℕ} (d : Deliverable p E) (G-is : 
         size = shared .size;
         row =
             λ g k.
-                record {
-                  size = ap length (shared .row-is g k) ∙ length-table 16 (partOf p g (E g));
-                  high = λ c l. omega (arith, part-of g c k l, part-high p E d g c (omega arith));
-                };
+            record {
+              size = ap length (shared .row-is g k) ∙ length-table 16 (partOf p g (E g));
+              high = λ c l. omega (arith, part-of g c k l, part-high p E d g c (omega arith));
+            };
       }
 
   abbrev loss-at : ℕ → ℕ → ℕ
@@ -77,8 +84,8 @@ module _ {p : Plan} {E : ℕ → ℕ} {n m : ℕ} (d : Deliverable p E) (G-is : 
       room₃ : length o₃ ≡ length o
       room₃ = stretch-size delivered-put (omega (arith, room₂)) ∙ room₂
 
-      pub same-size : length o₄ ≡ length o
-      same-size = stretch-size gap-put (omega (arith, room₃)) ∙ room₃
+      room₄ : length o₄ ≡ length o
+      room₄ = stretch-size gap-put (omega (arith, room₃)) ∙ room₃
 
       before-gap : (i : ℕ) → i < 3 * (n * m) → getD o₄ i 0 ≡ getD o₃ i 0
       before-gap = stretch-before gap-put (omega (arith, room₃))
@@ -89,7 +96,7 @@ module _ {p : Plan} {E : ℕ → ℕ} {n m : ℕ} (d : Deliverable p E) (G-is : 
       pub delivered-in : DeliveredIn p E o₄
       delivered-in =
           record {
-            size = same-size ∙ room ∙ (λ i. 4 * (G-is i * C-is i) + G-is i + C-is i);
+            size = room₄ ∙ room ∙ (λ i. 4 * (G-is i * C-is i) + G-is i + C-is i);
             loss-is = λ g c k l. sym (λ i. getD o₄ (g * C-is i + c) 0) ∙ loss-stands g c (omega (arith, G-is)) (omega (arith, C-is));
             delivered-is = λ g c k l. sym (λ i. getD o₄ (2 * (G-is i * C-is i) + (g * C-is i + c)) 0) ∙ delivered-stands g c (omega (arith, G-is)) (omega (arith, C-is));
             gap-is = λ g c k l. sym (λ i. getD o₄ (3 * (G-is i * C-is i) + (g * C-is i + c)) 0) ∙ gap-stands g c (omega (arith, G-is)) (omega (arith, C-is));
