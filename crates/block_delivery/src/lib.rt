@@ -92,10 +92,9 @@ fn lossy_at(s: &[u8], g: usize, c: usize, part: u32) -> Lossy
     requires { ⌜ (length (now s) ≡ recordBytes) × ((g < 8) × (c < 16)) ⌝ }
     ensures { λ r. ⌜ (r .energy .0 ≡ part) × (r .rate ≡ planIn (now (s .entry)) .loss g c) ⌝ }
 {
-    let rate = rate_at(s, g, c);
     Lossy {
         energy: Wh(lists::wide(part)),
-        rate,
+        rate: rate_at(s, g, c),
     }
 }
 

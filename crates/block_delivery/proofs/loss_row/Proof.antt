@@ -38,18 +38,18 @@ part-here i = fill-here (i .before .loop .inv .1)
 high : (i : In) → (part i ≤ mostReading) × (rate i ≤ mostLoss)
 high i = (start i .pre .1 .1 .0 .high (i .before .loop .c) (search needs), start i .pre .0 .loss-high (start i .args .g) (i .before .loop .c))
 
--- the loss is taken on the part, and is within it
-energy-is : (k : tie.After-lossy-at Inv-loop μ-loop) → k .lossy-at .result .energy .0 ≡ part (k .before .before)
-energy-is k = omega (arith, k .lossy-at .ensures, part-here (k .before .before))
+-- the loss is the pair's, and within its part
+taken : (k : tie.After-lossy-at Inv-loop μ-loop) → let i = k .before .before in (k .lossy-at .result .energy .0 ≡ part i) × (k .lossy-at .result .rate ≡ rate i)
+taken k = let i = k .before .before in let h = high i in (omega (arith, part-here i), omega arith)
 
 less-is : (k : tie.After-loss Inv-loop μ-loop) → let i = k .before .before .before in k .loss .result .0 ≡ lossOn (part i) (rate i)
-less-is k = k .loss .ensures ∙ rw (energy-is (k .before), k .before .lossy-at .ensures .1)
+less-is k = let t = taken (k .before) in k .loss .ensures ∙ rw (t .0, t .1)
 
 less-low : (k : tie.After-loss Inv-loop μ-loop) → k .loss .result .0 ≤ part (k .before .before .before)
 less-low k = let i = k .before .before .before in omega (arith, less-is k, loss-le (part i) (rate i) (omega (arith, high i)))
 
 loss-requires : tie.Need-loss-requires Inv-loop μ-loop
-loss-requires c κs = record { energy = omega (arith, energy-is c, high (c .before .before)); rate = omega (arith, c .lossy-at .ensures, high (c .before .before)) }
+loss-requires c κs = let h = high (c .before .before) in record { energy = omega (arith, taken c); rate = omega (arith, taken c) }
 
 loop-again : tie.Need-loop-again Inv-loop μ-loop
 loop-again c =
