@@ -11,7 +11,7 @@ ghost use Rattle.block_figures.specs.Laws.Gap.{gapOf};
 use energy::Kw;
 use energy::Wh;
 
-// All the kW of a generator.
+// All the kW of a generator, added up.
 pub fn scheduled_kw(row: [u32; 16]) -> Kw
     requires { ⌜ sum 16 (place 16 row) ≤ mostCapacity ⌝ }
     ensures { λ r. ⌜ r .0 ≡ sum 16 (place 16 row) ⌝ }
@@ -25,6 +25,8 @@ pub fn scheduled_kw(row: [u32; 16]) -> Kw
     Kw(sum)
 }
 
+// Rule 1: what counts of the entry reading. Nothing where nothing is scheduled; all of it for a deemed kind, which is scheduled at what it
+// delivers; else at most what is scheduled.
 pub fn counted(kind: u64, scheduled: Kw, entry: u32) -> u32
     ensures { λ r. ⌜ r ≡ countedOf kind (scheduled .0) entry ⌝ }
 {

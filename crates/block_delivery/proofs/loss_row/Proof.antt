@@ -3,7 +3,7 @@ use Prim.Native.Nat.{ℕ, _-_, _≤_}
 use mathlib.Core.Path.{_≡_, sym, _∙_}
 use native.Mathlib.Omega.{arith}
 use borrow.Author.Needs.{needs}
-use lib.ListN.{length, getD}
+use lib.ListN.{getD}
 use Rattle.lists.specs.Laws.TablesLaws.{Filling, fill-start, fill-step, fill-here, fill-length, fill-done}
 use Rattle.energy.specs.Energy.{lossOn, afterLoss}
 use Rattle.energy.specs.Laws.EnergyLaws.{loss-le}

@@ -4,6 +4,7 @@ use mathlib.Core.List.{List}
 use mathlib.Core.Path.{_≡_, ap, _∙_}
 use native.Mathlib.Omega.{arith}
 use lib.ListN.{getD}
+use Rattle.lists.specs.Pairs.{cell}
 use Rattle.lists.specs.Laws.PairsLaws.{place-in, cell-in}
 use Rattle.record.specs.Stored.{planOf}
 use Rattle.record_layout.specs.Laws.FigurePlaces.{kind-place, loss-place, kw-place}
@@ -19,14 +20,16 @@ module _ (s : List ℕ) where
   unfolding planOf
   kind-at g h = place-in 8 (recordIn s .agreed .kind) g h ∙ kind-place (wordsIn s) g h
 
+  -- a pair's figure, where the record has the list from place o on
+  pair-at : (o : ℕ) (list : List ℕ) → ((k : ℕ) → k < 128 → getD list k 0 ≡ at (o + k)) → (g c : ℕ) → g < 8 → c < 16 → cell 8 16 list g c ≡ at (o + g * 16 + c)
+  pair-at o list stands g c h k =
+      let e : o + (g * 16 + c) ≡ o + g * 16 + c = omega arith in
+      cell-in 8 16 list g c h k ∙ stands (g * 16 + c) (omega arith) ∙ ap at e
+
   pub loss-at : (g c : ℕ) → g < 8 → c < 16 → planIn s .loss g c ≡ at (lossAt + g * 16 + c)
   unfolding planOf
-  loss-at g c h k =
-      let e : lossAt + (g * 16 + c) ≡ lossAt + g * 16 + c = omega arith in
-      cell-in 8 16 (recordIn s .links .loss) g c h k ∙ loss-place (wordsIn s) (g * 16 + c) (omega arith) ∙ ap at e
+  loss-at = pair-at lossAt (recordIn s .links .loss) (loss-place (wordsIn s))
 
   pub kw-at : (g c : ℕ) → g < 8 → c < 16 → planIn s .kw g c ≡ at (kwAt + g * 16 + c)
   unfolding planOf
-  kw-at g c h k =
-      let e : kwAt + (g * 16 + c) ≡ kwAt + g * 16 + c = omega arith in
-      cell-in 8 16 (recordIn s .schedule .kw) g c h k ∙ kw-place (wordsIn s) (g * 16 + c) (omega arith) ∙ ap at e
+  kw-at = pair-at kwAt (recordIn s .schedule .kw) (kw-place (wordsIn s))

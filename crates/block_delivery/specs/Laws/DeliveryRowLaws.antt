@@ -15,12 +15,11 @@ use Rattle.lists.specs.Tables.{table}
 use Rattle.lists.specs.Laws.TablesLaws.{table-same}
 use Rattle.lists.specs.Pairs.{place}
 use Rattle.lists.specs.Laws.PairsLaws.{place-table}
-use Rattle.energy.specs.Energy.{quarterHour}
 use Rattle.energy.specs.Limits.{mostCapacity, mostReading}
 use Rattle.sharing.specs.Share.{part, shared}
 use Rattle.sharing.specs.Laws.ShareLaws.{part-le-whole, part-wide, shared-within}
 use Rattle.record.specs.Plan.{Plan, deemed, scheduled}
-use Rattle.block_rules.specs.Delivery.{countedOf, counted, partOf, lossOf, delivered, scheduledAtExit, atExit}
+use Rattle.block_rules.specs.Delivery.{countedOf, counted, partOf, delivered, scheduledAtExit, atExit}
 use Rattle.block_rules.specs.Laws.DeliveryLaws.{counted-le, delivered-le}
 use Rattle.block_rules.specs.Laws.Deliverable.{Deliverable}
 use Rattle.block_figures.specs.Laws.Gap.{gapOf}

@@ -11,15 +11,6 @@ returns c = counted-idle _ _ _ (c .if1 .taken)
 returns-2 : tie.Need-returns-2
 returns-2 c = counted-deemed _ _ _ (λ z. omega arith) (λ z. omega arith)
 
-quarter-hour-requires : tie.Need-quarter-hour-requires
-quarter-hour-requires c κs = search needs
-
-wide-requires : tie.Need-wide-requires
-wide-requires c κs = search needs
-
-cast-result : tie.Need-cast-result
-cast-result c = search needs
-
 returns-3 : tie.Need-returns-3
 returns-3 c =
     let s = c .before .before .before .before .before .before .before in
@@ -36,8 +27,8 @@ counted-spec =
     (tie.spec
     returns
     returns-2
-    quarter-hour-requires
-    wide-requires
-    cast-result
+    (λ c κs. search needs)
+    (λ c κs. search needs)
+    (λ c. search needs)
     returns-3
     returns-4)

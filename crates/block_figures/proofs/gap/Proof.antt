@@ -11,9 +11,6 @@ returns c =
     let s = c .before .before .before .before in
     omega (arith, gap-scheduled (s .args .kind) (s .args .scheduled .0) (s .args .rate) (s .args .delivered) (omega arith))
 
-loss-requires : tie.Need-loss-requires
-loss-requires c κs = search needs
-
 sub-result : tie.Need-sub-result
 sub-result c =
     let s = c .before .before .before .before in
@@ -26,4 +23,4 @@ returns-2 : tie.Need-returns-2
 returns-2 c = gap-deemed _ _ _ _ (λ z. omega arith)
 
 pub gap-spec : {M : Type 1} → statement M
-gap-spec = tie.close (tie.spec loss-requires sub-result sub-result-2 returns returns-2)
+gap-spec = tie.close (tie.spec (λ c κs. search needs) sub-result sub-result-2 returns returns-2)

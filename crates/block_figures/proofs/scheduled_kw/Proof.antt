@@ -30,20 +30,8 @@ sum-next c =
 loop-holds : tie.Need-loop-holds Inv-loop μ-loop
 loop-holds c = (search needs, sym (sum-none _))
 
-mul-sum : tie.Need-mul-sum Inv-loop μ-loop
-mul-sum c = search needs
-
-array-read-sum : tie.Need-array-read-sum Inv-loop μ-loop
-array-read-sum c = search needs
-
 add-sum : tie.Need-add-sum Inv-loop μ-loop
 add-sum c = omega (arith, sum-next c, sum-to (c .before .loop .c + 1) 16 (place 16 (c .before .before .args .t1)) (omega arith))
-
-add-c : tie.Need-add-c Inv-loop μ-loop
-add-c c = search needs
-
-loop-less : tie.Need-loop-less Inv-loop μ-loop
-loop-less c = search needs
 
 loop-again : tie.Need-loop-again Inv-loop μ-loop
 loop-again c = (search needs, sum-next c)
@@ -60,10 +48,10 @@ scheduled-kw-spec =
     Inv-loop
     μ-loop
     loop-holds
-    mul-sum
-    array-read-sum
+    (λ c. search needs)
+    (λ c. search needs)
     add-sum
-    add-c
-    loop-less
+    (λ c. search needs)
+    (λ c. search needs)
     loop-again
     returns)
