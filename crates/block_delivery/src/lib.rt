@@ -1,5 +1,6 @@
 // Rules 1 to 4 of a block on the record's bytes: what the entry reading of each generator delivers to each consumer. The parts of all
-// generators are gathered first, a row for each. Then each list of the output is filled by a function that is lent this list's own stretch.
+// generators are gathered first, a row for each; then each list of the output is filled by a function that is lent this list's own stretch
+// and nothing else of the output. Throughout, `s` is the record's bytes, `n` and `m` are its generators and consumers, `g` and `c` one of each.
 ghost use mathlib.Core.Path.{_≡_};
 ghost use Prim.Native.Nat.{ℕ, _+_, _*_, _<_, _≤_};
 ghost use lib.ListN.{length, getD};
@@ -18,7 +19,7 @@ ghost use Rattle.block_delivery.specs.Laws.DeliveryRows.{figure, gapAt, 
 use energy::Kw;
 use energy::Wh;
 
-// A generator's kind, a pair's kW and its loss rate, each read where the record has it.
+// Three figures of the agreement and the schedule, each read where the record has it: a generator's kind, a pair's kW and its loss rate.
 fn kind_at(s: &[u8], g: usize) -> u64
     requires { ⌜ (length (now s) ≡ recordBytes) × (g < 8) ⌝ }
     ensures { λ r. ⌜ r ≡ planIn (now (s .entry)) .kind g ⌝ }
@@ -40,7 +41,7 @@ fn rate_at(s: &[u8], g: usize, c: usize) -> u64
     record_numbers::number_at(s, record_places::LOSS + g * 16 + c)
 }
 
-// The kW of generator g.
+// The kW of generator g for each consumer, as the share step takes them.
 fn kw_row(s: &[u8], g: usize) -> [u32; 16]
     requires { ⌜ (length (now s) ≡ recordBytes) × ((g < 8) × ((c : ℕ) → planIn (now s) .kw g c ≤ mostCapacity)) ⌝ }
     ensures { λ r. ⌜ r ≡ table 16 (planIn (now (s .entry)) .kw g) ⌝ }
@@ -64,8 +65,8 @@ fn counted_at(s: &[u8], g: usize, row: [u32; 16], reading: u32) -> u32
     block_figures::counted(kind, scheduled, reading)
 }
 
-// Rules 1 and 2: the parts of each generator, a row each, and in `out` the list of what does not count. The rows are lent, not returned,
-// so that they are not copied; those from n on stay as they were.
+// Rules 1 and 2: in `parts` what the share step hands back for each generator, a row each, and in `out` the list of what does not count.
+// The rows are lent and not returned, so that they are not copied; those from n on stay as they were.
 fn share_rows(s: &[u8], n: usize, entry: &[u32], parts: &mut [[u32; 16]; 8], out: &mut [u64])
     requires { ⌜ Ready (now s) n (planIn (now s) .C) (now entry) × ((length (now parts) ≡ 8) × (length (now out) ≡ n)) ⌝ }
     ensures { λ _. ⌜ (now (out .exit) ≡ table n (λ g. unaccounted (planIn (now (s .entry))) g (entriesIn (now (s .entry)) (now (entry .entry)) g))) × Shared (planIn (now (s .entry))) (entriesIn (now (s .entry)) (now (entry .entry))) n (now (parts .exit)) ⌝ }
@@ -81,13 +82,13 @@ fn share_rows(s: &[u8], n: usize, entry: &[u32], parts: &mut [[u32; 16]; 8], out
     }
 }
 
-// What the loss of a pair is taken on, and its rate.
+// The energy that the loss of a pair is taken on, and the rate.
 struct Lossy {
     energy: Wh,
     rate: u64,
 }
 
-// The loss is taken on the pair's own part of this block: rounded up once for several together, it would be another.
+// The loss is taken on the pair's own part of this block. Taken on a sum of several, and so rounded up once for all, it would be another.
 fn lossy_at(s: &[u8], g: usize, c: usize, part: u32) -> Lossy
     requires { ⌜ (length (now s) ≡ recordBytes) × ((g < 8) × (c < 16)) ⌝ }
     ensures { λ r. ⌜ (r .energy .0 ≡ part) × (r .rate ≡ planIn (now (s .entry)) .loss g c) ⌝ }
@@ -98,7 +99,7 @@ fn lossy_at(s: &[u8], g: usize, c: usize, part: u32) -> Lossy
     }
 }
 
-// Rule 3 for generator g: its row of the losses. Of its parts stays what is delivered.
+// Rule 3 for generator g: in `out` its row of the losses. What they leave of its parts, and so what is delivered, stays in `parts`.
 fn loss_row(s: &[u8], g: usize, m: usize, parts: &mut [u32; 16], out: &mut [u64])
     requires { ⌜ Limited (now s) m × ((g < 8) × (LossRow m (now parts) × (length (now out) ≡ m))) ⌝ }
     ensures { λ _. ⌜ (now (out .exit) ≡ table m (λ c. lossOn (getD (now (parts .entry)) c 0) (planIn (now (s .entry)) .loss g c))) × (now (parts .exit) ≡ filled (now (parts .entry)) m (λ c. afterLoss (getD (now (parts .entry)) c 0) (planIn (now (s .entry)) .loss g c))) ⌝ }
@@ -114,7 +115,7 @@ fn loss_row(s: &[u8], g: usize, m: usize, parts: &mut [u32; 16], out: &mut [u64]
     }
 }
 
-// Rule 3: the list of losses. Of the parts stays what is delivered.
+// Rule 3: the list of losses, row after row. What is delivered stays in `parts`.
 fn fill_loss(s: &[u8], n: usize, m: usize, parts: &mut [[u32; 16]; 8], out: &mut [u64])
     requires { ⌜ Limited (now s) m × ((n ≤ 8) × (LossRows n m (now parts) × (length (now out) ≡ n * m))) ⌝ }
     ensures { λ _. ⌜ (now (out .exit) ≡ pairs n m (λ g c. lossOn (figure (now (parts .entry)) g c) (planIn (now (s .entry)) .loss g c))) × Lessened (planIn (now (s .entry))) n m (now (parts .entry)) (now (parts .exit)) ⌝ }
@@ -129,7 +130,7 @@ fn fill_loss(s: &[u8], n: usize, m: usize, parts: &mut [[u32; 16]; 8], out: &mut
     }
 }
 
-// One generator's row of what is delivered: its first m figures.
+// One generator's row of what is delivered, as numbers of the output.
 fn delivered_row(m: usize, delivered: &[u32; 16], out: &mut [u64])
     requires { ⌜ (m ≤ 16) × (length (now out) ≡ m) ⌝ }
     ensures { λ _. ⌜ now (out .exit) ≡ table m (λ c. getD (now (delivered .entry)) c 0) ⌝ }
@@ -141,7 +142,7 @@ fn delivered_row(m: usize, delivered: &[u32; 16], out: &mut [u64])
     }
 }
 
-// The list of what is delivered.
+// The list of what is delivered, row after row.
 fn fill_delivered(n: usize, m: usize, delivered: &[[u32; 16]; 8], out: &mut [u64])
     requires { ⌜ (n ≤ 8) × ((m ≤ 16) × (length (now out) ≡ n * m)) ⌝ }
     ensures { λ _. ⌜ now (out .exit) ≡ pairs n m (figure (now (delivered .entry))) ⌝ }
@@ -156,7 +157,7 @@ fn fill_delivered(n: usize, m: usize, delivered: &[[u32; 16]; 8], out: &mut [u64
     }
 }
 
-// Rule 4 for generator g: its row of how much less is delivered than is scheduled at exit.
+// Rule 4 for generator g: its row of how much less is delivered than is scheduled at exit. The settling wants this difference only.
 fn gap_row(s: &[u8], g: usize, m: usize, delivered: &[u32; 16], out: &mut [u64])
     requires { ⌜ Limited (now s) m × ((g < 8) × (((c : ℕ) → c < m → planIn (now s) .kind g ≡ 0 → getD (now delivered) c 0 ≤ scheduledAtExit (planIn (now s)) g c) × (length (now out) ≡ m))) ⌝ }
     ensures { λ _. ⌜ now (out .exit) ≡ table m (λ c. gapAt (planIn (now (s .entry))) g c (getD (now (delivered .entry)) c 0)) ⌝ }
@@ -171,7 +172,7 @@ fn gap_row(s: &[u8], g: usize, m: usize, delivered: &[u32; 16], out: &mut [u64])
     }
 }
 
-// Rule 4: the list of these gaps.
+// Rule 4: the list of these gaps, row after row.
 fn fill_gap(s: &[u8], n: usize, m: usize, delivered: &[[u32; 16]; 8], out: &mut [u64])
     requires { ⌜ Limited (now s) m × ((n ≤ 8) × (((g c : ℕ) → g < n → c < m → planIn (now s) .kind g ≡ 0 → figure (now delivered) g c ≤ scheduledAtExit (planIn (now s)) g c) × (length (now out) ≡ n * m))) ⌝ }
     ensures { λ _. ⌜ now (out .exit) ≡ pairs n m (λ g c. gapAt (planIn (now (s .entry))) g c (figure (now (delivered .entry)) g c)) ⌝ }
@@ -187,11 +188,12 @@ fn fill_gap(s: &[u8], n: usize, m: usize, delivered: &[[u32; 16]; 8], out: &mut 
 }
 
 // By pair, in the stretches of loss, underdrawn and shortfall: the loss, what is delivered, and how much less that is than what is
-// scheduled at exit. By generator: what does not count.
+// scheduled at exit. By generator: what does not count. Set off's stretch and the remainder's are left to the settling.
 pub fn deliver(s: &[u8], n: usize, m: usize, entry: &[u32], out: &mut [u64])
     requires { ⌜ Ready (now s) n m (now entry) × (length (now out) ≡ 4 * (n * m) + n + m) ⌝ }
     ensures { λ _. ⌜ DeliveredIn (planIn (now (s .entry))) (entriesIn (now (s .entry)) (now (entry .entry))) (now (out .exit)) ⌝ }
 {
+    // where the lists start
     let size = n * m;
     let underdrawn = 2 * size;
     let shortfall = 3 * size;
