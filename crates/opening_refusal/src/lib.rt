@@ -15,8 +15,8 @@ fn sizes_fit(n: usize, m: usize, generator_list: &[u32], pair_list: &[u32]) -> b
 fn terms_fit(rate: u32, cycle: u32, gone: u32) -> bool
     ensures { λ r. ⌜ r ≡ termsFit rate cycle gone ⌝ }
 {
-    (lists::wide(rate) <= bank::Bank::MOST_RATE)
-        & ((1 <= cycle) & (lists::wide(cycle) <= bank::Bank::MOST_CYCLE))
+    (lists::wide(rate) <= record::MOST_RATE)
+        & ((1 <= cycle) & (lists::wide(cycle) <= record::MOST_CYCLE))
         & (gone < cycle)
 }
 
