@@ -1,12 +1,12 @@
 -- The totals beyond the agreement, tested as one number. Assumes nothing.
 use Prim.Native.Nat.{ℕ}
-use mathlib.Core.Path.{_≡_, refl, sym}
-use mathlib.Core.Bool.{Bool, true, false, _&&_}
+use mathlib.Core.Path.{_≡_}
+use mathlib.Core.Bool.{true, false, _&&_}
 use native.Mathlib.Omega.{arith}
 use lib.Bits.{bitOr, or-add-and, and-le-l, and-le-r}
 use lib.Dec.{eqb, leb}
 use borrow.Author.Tests.{leb-true, le-leb, eq-eqb, eqb-true}
-use Rattle.lists.specs.Laws.TestsLaws.{and-left, and-right, and-both}
+use Rattle.lists.specs.Laws.TestsLaws.{same-test, and-left, and-right, and-both}
 use Rattle.record.specs.Book.{splitOfInjected, splitOfMetered}
 use Rattle.record.specs.Sound.{generatorSound, consumerSound}
 use Rattle.record.specs.declared.GeneratorTerms.{GeneratorTerms}
@@ -15,11 +15,6 @@ use Rattle.record.specs.declared.ConsumerTerms.{ConsumerTerms}
 -- numbers joined by `|`
 zeros : (a b : ℕ) → bitOr a b ≡ 0 → (a ≡ 0) × (b ≡ 0)
 zeros a b e = (omega (arith, e, or-add-and a b, and-le-r a b), omega (arith, e, or-add-and a b, and-le-l a b))
-
-same-test : (p q : Bool) → (p ≡ true → q ≡ true) → (q ≡ true → p ≡ true) → p ≡ q
-same-test true q h k = sym (h refl)
-same-test false true h k = k refl
-same-test false false h k = refl
 
 -- beyond the agreement all terms of an equation are 0
 pub generator-beyond : (blocks : ℕ) (x : GeneratorTerms) →
