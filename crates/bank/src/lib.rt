@@ -1,15 +1,16 @@
 // The bank: one balance a generator, with its own calls and limits (steps 1, 2 and 4 of a closing).
 ghost use mathlib.Core.Path.{_≡_};
-ghost use Prim.Native.Nat.{ℕ, _-_, _<_, _≤_};
-ghost use lib.Dec.{eqb};
+ghost use Prim.Native.Nat.{ℕ, _+_, _-_, _<_, _≤_};
+ghost use mathlib.Core.Bool.{true};
+ghost use lib.Dec.{eqb, leb};
 ghost use Rattle.lists.specs.Tables.{table};
 ghost use Rattle.lists.specs.Pairs.{place};
 ghost use Rattle.order_rules.specs.Order.{only};
 ghost use Rattle.order.specs.Laws.KeptOrder.{turnsOf, Held};
 ghost use Rattle.order_rules.specs.Laws.Among.{among};
-ghost use Rattle.energy.specs.Limits.{mostCycle};
+ghost use Rattle.energy.specs.Limits.{mostFigure};
 ghost use Rattle.closing_rules.specs.Closing.{cycleEnds};
-ghost use Rattle.bank.specs.Laws.BankSteps.{Creditable, creditOf, drawOf, lapseOf};
+ghost use Rattle.bank.specs.Laws.BankSteps.{creditable, creditOf, creditAnswer, drawOf, lapseOf};
 use energy::Wh;
 
 pub struct Bank {
@@ -42,6 +43,16 @@ pub struct Drawing {
     pub supplied: [u64; 16],
 }
 
+// Whether a balance and what is pending together are within the bank's limit, tested without adding: a sum could wrap.
+fn within(balance: u64, pending: u64) -> bool
+    ensures { λ r. ⌜ r ≡ leb (balance + pending) mostFigure ⌝ }
+{
+    if pending <= Bank::MOST_ENERGY {
+        return balance <= Bank::MOST_ENERGY - pending;
+    }
+    false
+}
+
 impl Bank {
     // The most that a balance, or a month's pending, comes to: what one place meters in the life of a unit.
     pub const MOST_ENERGY: u64 = record::MOST_UNIT_BLOCKS * energy::MOST_READING;
@@ -49,12 +60,33 @@ impl Bank {
     // The highest charge rate, in hundredths of a percent.
     pub const MOST_RATE: u64 = record::MOST_RATE;
 
-    // The longest cycle, in months.
-    pub const MOST_CYCLE: u64 = record::MOST_CYCLE;
+    // Whether the bank takes what is pending at this rate: the rate is within its limit, and so is each balance with what is pending.
+    fn takes(self, pending: [u64; 8], rate: u64) -> bool
+        ensures { λ r. ⌜ r ≡ creditable self pending rate ⌝ }
+    {
+        let mut ok = true;
+        let mut g: usize = 0;
+        while g < 8 {
+            ok = ok & within(self.balance[g], pending[g]);
+            g += 1;
+        }
+        (rate <= Bank::MOST_RATE) & ok
+    }
 
-    // Step 1: what the bank held before is not charged again.
+    // Step 1. Beyond the bank's limits it stays as it was, and nothing is charged.
     pub fn credit(self, pending: [u64; 8], rate: u64) -> Credit
-        requires { ⌜ Creditable self pending rate ⌝ }
+        ensures { λ r. ⌜ r ≡ creditAnswer self pending rate ⌝ }
+    {
+        if self.takes(pending, rate) {
+            return self.credited(pending, rate);
+        }
+        let charge = [0u64; 8];
+        Credit { bank: self, charge }
+    }
+
+    // Within the limits: what the bank held before is not charged again.
+    fn credited(self, pending: [u64; 8], rate: u64) -> Credit
+        requires { ⌜ creditable self pending rate ≡ true ⌝ }
         ensures { λ r. ⌜ r ≡ creditOf self pending rate ⌝ }
     {
         let mut balance = self.balance;
@@ -111,15 +143,13 @@ impl Bank {
 
     // Whether the month that closes is the last of its cycle, of which so many months were gone before.
     pub fn cycle_ends(gone: u64, cycle: u64) -> bool
-        requires { ⌜ gone ≤ mostCycle ⌝ }
         ensures { λ r. ⌜ r ≡ cycleEnds gone cycle ⌝ }
     {
-        gone + 1 == cycle
+        cycle > 0 && gone == cycle - 1
     }
 
     // Step 4: at the end of a cycle nothing stays.
     pub fn lapse(self, gone: u64, cycle: u64) -> Lapse
-        requires { ⌜ gone ≤ mostCycle ⌝ }
         ensures { λ r. ⌜ r ≡ lapseOf self (cycleEnds gone cycle) ⌝ }
     {
         let none = [0u64; 8];

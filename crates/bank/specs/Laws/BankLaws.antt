@@ -4,13 +4,16 @@ use mathlib.Core.Path.{_≡_, refl, sym, ap, _∙_}
 use mathlib.Core.Bool.{Bool, true, false}
 use mathlib.Core.List.{List}
 use native.Mathlib.Omega.{arith}
+use borrow.Author.Tests.{leb-true, le-leb}
+use lib.Dec.{leb}
 use lib.ListN.{length, getD, set, replicate}
 use Rattle.lists.specs.Tables.{table}
 use Rattle.lists.specs.Laws.TablesLaws.{getD-table, is-table, table-same, Filling, fill-start, fill-step, fill-here, fill-done}
 use Rattle.lists.specs.Pairs.{place}
 use Rattle.lists.specs.Laws.PairsLaws.{place-in}
 use Rattle.energy.specs.Energy.{portionUp}
-use Rattle.energy.specs.Limits.{mostFigure}
+use Rattle.lists.specs.Laws.TestsLaws.{and-left, and-right, and-both, all-at, all-from}
+use Rattle.energy.specs.Limits.{mostRate, mostFigure}
 use Rattle.energy.specs.Laws.EnergyLaws.{portion-le}
 use Rattle.order_rules.specs.Order.{only}
 use Rattle.order_rules.specs.Laws.Members.{Below}
@@ -22,11 +25,15 @@ use Rattle.bank.specs.declared.Bank.{Bank}
 use Rattle.bank.specs.declared.Credit.{Credit}
 use Rattle.bank.specs.declared.Draw.{Draw}
 use Rattle.bank.specs.declared.Lapse.{Lapse}
-use Rattle.bank.specs.Laws.BankSteps.{creditOf, Creditable, drawOf, lapseOf}
+use Rattle.bank.specs.Laws.BankSteps.{creditOf, creditable, creditAnswer, drawOf, lapseOf}
 
 -- the balances as a rule by generator
 pub balances : (xs : List ℕ) → length xs ≡ 8 → xs ≡ table 8 (place 8 xs)
 balances xs z = is-table 0 8 (place 8 xs) xs z (λ g l. sym (place-in 8 xs g l))
+
+zeros : replicate {A = ℕ} 8 0 ≡ table 8 (λ g. 0)
+unfolding table
+zeros = refl
 
 -- ---- step 1
 
@@ -64,13 +71,34 @@ module _ (old pending : List ℕ) (rate : ℕ) where
       let f = fill-done (h .charge-is) l in
       λ i. record { bank = record { balance = e i }; charge = f i }
 
-  -- the next generator's figures are moderate, and its charge is within its pending
-  module _ (ready : Creditable (record { balance = old }) pending rate) where
+  -- within the limits the next generator's figures are moderate, and its charge is within its pending
+  module _ (within : creditable (record { balance = old }) pending rate ≡ true) where
     pub credit-moderate : {g : ℕ} {balance charge : List ℕ} → Crediting g balance charge → g < 8 → getD balance g 0 + getD pending g 0 ≤ mostFigure
-    credit-moderate {g} h l = omega (arith, ready .moderate g l, place-in 8 old g l, place-in 8 pending g l, fill-here (h .balance-is))
+    unfolding creditable
+    credit-moderate {g} h l =
+        let sum : place 8 old g + place 8 pending g ≤ mostFigure = leb-true _ _ (all-at 8 _ (and-right (leb rate mostRate) _ within) g l) in
+        omega (arith, place-in 8 old g l, place-in 8 pending g l, fill-here (h .balance-is))
+
+    pub rate-high : rate ≤ mostRate
+    unfolding creditable
+    rate-high = leb-true _ _ (and-left (leb rate mostRate) _ within)
 
     pub credit-exact : {due : ℕ} (g : ℕ) → due ≡ portionUp (getD pending g 0) rate → due ≤ getD pending g 0
-    credit-exact g e = omega (arith, portion-le (getD pending g 0) rate (omega (arith, ready .rate-high)))
+    credit-exact g e = omega (arith, portion-le (getD pending g 0) rate (omega (arith, rate-high)))
+
+-- the call's answer by the two cases of its test
+module _ (x : Bank) (pending : List ℕ) (rate : ℕ) where
+  pub credit-within : creditable x pending rate ≡ true → creditAnswer x pending rate ≡ creditOf x pending rate
+  unfolding creditAnswer
+  credit-within t = rw t
+
+  pub credit-beyond : creditable x pending rate ≡ false → creditAnswer x pending rate ≡ record { bank = x; charge = replicate 8 0 }
+  unfolding creditAnswer
+  credit-beyond t = rw t (λ i. record { bank = x; charge = sym zeros i })
+
+  pub creditable-so : rate ≤ mostRate → ((g : ℕ) → g < 8 → place 8 (x .balance) g + place 8 pending g ≤ mostFigure) → creditable x pending rate ≡ true
+  unfolding creditable
+  creditable-so h k = and-both (le-leb _ _ h) (all-from 8 _ (λ g l. le-leb _ _ (k g l)))
 
 -- ---- step 2, for one consumer
 
@@ -112,10 +140,6 @@ drawn-by-rule x f gs want b e =
     λ i. record { bank = record { balance = r i .rest }; drawn = r i .taken; left = r i .left }
 
 -- ---- step 4
-
-zeros : replicate {A = ℕ} 8 0 ≡ table 8 (λ g. 0)
-unfolding table
-zeros = refl
 
 module _ (x : Bank) (ends : Bool) (size : length (x .balance) ≡ 8) where
   pub lapse-all : ends ≡ true → _≡_ {A = Lapse} (record { bank = record { balance = replicate 8 0 }; lapsed = x .balance }) (lapseOf x ends)

@@ -1,7 +1,9 @@
 -- Steps 1, 2 and 4 of a closing on arrays, as the code has them. Assumes nothing.
-use Prim.Native.Nat.{ℕ, _+_, _-_, _≤_, _<_}
-use mathlib.Core.Bool.{Bool}
+use Prim.Native.Nat.{ℕ, _+_, _-_}
+use mathlib.Core.Bool.{Bool, _&&_}
 use mathlib.Core.List.{List}
+use lib.Dec.{leb}
+use Rattle.lists.specs.Tests.{all}
 use Rattle.lists.specs.Choice.{if_then_else_}
 use Rattle.lists.specs.Tables.{table}
 use Rattle.lists.specs.Pairs.{place, pairs}
@@ -23,10 +25,13 @@ creditOf x pending rate =
       charge = table 8 (λ g. portionUp (place 8 pending g) rate);
     }
 
--- what a sound record gives: no figure is over 2 x 10^15
-pub record Creditable (x : Bank) (pending : List ℕ) (rate : ℕ) : Type 0 where
-  pub moderate : (g : ℕ) → g < 8 → place 8 (x .balance) g + place 8 pending g ≤ mostFigure
-  pub rate-high : rate ≤ mostRate
+-- the bank's limits for it: the rate is in range, and no balance with what is pending comes over 2 x 10^15
+unfoldable pub creditable : Bank → List ℕ → ℕ → Bool
+creditable x pending rate = leb rate mostRate && all 8 (λ g. leb (place 8 (x .balance) g + place 8 pending g) mostFigure)
+
+-- what the call answers: beyond the limits the bank as it was, and nothing charged
+unfoldable pub creditAnswer : Bank → List ℕ → ℕ → Credit
+creditAnswer x pending rate = if creditable x pending rate then creditOf x pending rate else record { bank = x; charge = table 8 (λ g. 0) }
 
 -- Step 2 for one consumer, by its suppliers in their order
 unfoldable pub drawOf : Bank → List ℕ → ℕ → Draw

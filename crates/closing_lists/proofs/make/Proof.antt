@@ -1,7 +1,8 @@
 -- `closing_lists::make` meets its contract: the steps on what was read give the output of the rules.
-use mathlib.Core.Path.{refl}
+use mathlib.Core.Path.{refl, _∙_}
 use borrow.Author.Needs.{needs}
-use Rattle.closing_lists.specs.Laws.ClosingAccepted.{StepsRead, credit-ready, draw-ready, lapse-ready, output-room, lists-are}
+use Rattle.bank.specs.Laws.BankLaws.{credit-within}
+use Rattle.closing_lists.specs.Laws.ClosingAccepted.{StepsRead, credit-ready, draw-ready, output-room, lists-are}
 use Rattle.closing_lists.specs.Laws.ClosingReading.{steps-read}
 use Rattle.record_layout.specs.OnBytes.{recordIn}
 use Rattle.closing_lists.proofs.make.Statement.{statement}
@@ -26,16 +27,13 @@ read : (c : tie.After-load16) →
 read c = steps-read _ (start c .pre .0) (c .before .before .load8 .ensures) (c .before .load82 .ensures) (c .load16 .ensures)
 
 credit-requires : tie.Need-credit-requires
-credit-requires c κs = credit-ready _ _ (start c .pre .1) (read c)
+credit-requires c κs = search needs
 
 draw-all-requires : tie.Need-draw-all-requires
 draw-all-requires c κs = let r = c .before .before in (start r .pre .0 .whole, draw-ready _ _ (start r .pre .1) (read r))
 
 lapse-requires : tie.Need-lapse-requires
-lapse-requires c κs =
-    let drew = c .before .before in
-    let r = drew .before .before .before in
-    lapse-ready _ _ (start r .pre .1) (read r)
+lapse-requires c κs = search needs
 
 write-lists-requires : tie.Need-write-lists-requires
 write-lists-requires c κs =
@@ -56,7 +54,7 @@ returns c =
     let drew = lapsed .before .before .before in
     let credited = drew .before .before in
     let r = credited .before in
-    lists-are _ _ (start r .pre .1) (read r) (credited .credit .ensures) (drew .draw-all .ensures) (lapsed .lapse .ensures) (wrote .write-lists .ensures)
+    lists-are _ _ (start r .pre .1) (read r) (credited .credit .ensures ∙ credit-within _ _ _ (credit-ready _ _ (start r .pre .1) (read r))) (drew .draw-all .ensures) (lapsed .lapse .ensures) (wrote .write-lists .ensures)
 
 pub make-spec : {M : Type 1} → statement M
 make-spec =

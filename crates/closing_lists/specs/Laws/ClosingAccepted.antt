@@ -1,10 +1,10 @@
 -- What the steps of an accepted closing may rely on, and that they give the output of the rules. Assumes nothing.
 use Prim.Native.Nat.{ℕ, _≤_}
 use mathlib.Core.Path.{_≡_, refl, ap, _∙_}
+use mathlib.Core.Bool.{true}
 use mathlib.Core.List.{List}
 use native.Mathlib.Omega.{arith}
 use lib.ListN.{length}
-use Rattle.energy.specs.Limits.{mostCycle}
 use Rattle.record.specs.Plan.{suppliers}
 use Rattle.record.specs.Book.{noConsumption}
 use Rattle.record.specs.Stored.{generatorAt, consumerAt, planOf, figures}
@@ -14,22 +14,23 @@ use Rattle.record.specs.declared.ConsumerTerms.{ConsumerTerms}
 use Rattle.record.specs.declared.Record.{Record}
 use Rattle.record.specs.declared.Terms.{Terms}
 use Rattle.record.specs.declared.Counts.{Counts}
-use Rattle.bank.specs.Laws.BankSteps.{Creditable, creditOf, drawingOf, lapseOf}
+use Rattle.bank.specs.Laws.BankSteps.{creditable, creditOf, drawingOf, lapseOf}
+use Rattle.bank.specs.Laws.BankLaws.{creditable-so}
 use Rattle.bank.specs.declared.Credit.{Credit}
 use Rattle.bank.specs.declared.Drawing.{Drawing}
 use Rattle.bank.specs.declared.Lapse.{Lapse}
 use Rattle.closing_rules.specs.Closing.{cycleEnds, closingOutput, closingRule}
-use Rattle.closing_rules.specs.Laws.ClosingRefusals.{facts, generators-few, consumers-few, gone-few, output-size}
+use Rattle.closing_rules.specs.Laws.ClosingRefusals.{facts, generators-few, consumers-few, output-size}
 use Rattle.closing_lists.specs.Laws.Drawable.{Drawable}
 use Rattle.closing_lists.specs.Laws.ClosingMonth.{Month, monthMade, monthIn, month-is}
 use Rattle.closing_lists.specs.Laws.ClosingWritten.{OutputRoom, sixLists, monthWritten, output-is}
 
 module _ (r : Record) (size : ℕ) (z : numberOn (closingRule size) r ≡ 0) where
-  creditable : Creditable (record { balance = r .generators .bank }) (r .generators .pending) (r .terms .rate)
+  credit-taken : creditable (record { balance = r .generators .bank }) (r .generators .pending) (r .terms .rate) ≡ true
   unfolding figures generatorAt
-  creditable =
+  credit-taken =
       let f = facts r size z in
-      record { moderate = λ g l. omega (arith, f .gen g .equation, injected-most (figures r) f g); rate-high = f .counts .rate-high }
+      creditable-so _ _ _ (f .counts .rate-high) (λ g l. omega (arith, f .gen g .equation, injected-most (figures r) f g))
 
   drawable : Drawable (planOf r) (r .terms .generators) (r .terms .consumers) (r .consumers .outstanding)
   unfolding figures planOf consumerAt noConsumption
@@ -52,14 +53,11 @@ pub record StepsRead (r : Record) (terms : Terms) (counts : Counts) (held pendin
   pub open-is : outstanding ≡ r .consumers .outstanding
 
 module _ (r : Record) (size : ℕ) (z : numberOn (closingRule size) r ≡ 0) {terms : Terms} {counts : Counts} {held pending outstanding : List ℕ} (x : StepsRead r terms counts held pending outstanding) where
-  pub credit-ready : Creditable (record { balance = held }) pending (terms .rate)
-  credit-ready = rw (x .held-is, x .pending-is, x .terms-are) (creditable r size z)
+  pub credit-ready : creditable (record { balance = held }) pending (terms .rate) ≡ true
+  credit-ready = rw (x .held-is, x .pending-is, x .terms-are) (credit-taken r size z)
 
   pub draw-ready : Drawable (planOf r) (terms .generators) (terms .consumers) outstanding
   draw-ready = rw (x .terms-are, x .open-is) (drawable r size z)
-
-  pub lapse-ready : counts .gone ≤ mostCycle
-  lapse-ready = rw (x .counts-are) (gone-few r size z)
 
   pub output-room : {out : List ℕ} → length out ≡ size → OutputRoom out (terms .generators) (terms .consumers)
   output-room e = rw (x .terms-are) (record { size = e ∙ output-size r size z; rows = generators-few r size z; columns = consumers-few r size z })

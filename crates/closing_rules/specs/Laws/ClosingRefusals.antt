@@ -4,7 +4,6 @@ use mathlib.Core.Path.{_≡_, sym, _∙_}
 use mathlib.Core.Bool.{true}
 use mathlib.Core.Logic.{⊎-elim}
 use native.Mathlib.Omega.{arith}
-use Rattle.energy.specs.Limits.{mostCycle}
 use Rattle.record.specs.Book.{Book}
 use Rattle.record.specs.Stored.{figures, planOf}
 use Rattle.record.specs.Sound.{sound}
@@ -39,10 +38,6 @@ module _ (r : Record) (size : ℕ) (z : numberOn (closingRule size) r ≡ 0) whe
   pub consumers-few : r .terms .consumers ≤ 16
   unfolding figures planOf
   consumers-few = facts .counts .C-high
-
-  pub gone-few : r .counts .gone ≤ mostCycle
-  unfolding figures
-  gone-few = omega (arith, facts .counts .gone-high, facts .counts .cycle-high)
 
   pub output-size : size ≡ r .terms .generators * r .terms .consumers + 3 * r .terms .generators + 2 * r .terms .consumers
   unfolding figures planOf closingLength closingRule

@@ -1,88 +1,21 @@
--- `bank::Bank::credit` is step 1: g generators are charged and credited. Assumes nothing.
-use Prim.Native.Nat.{_-_, _≤_}
-use native.Mathlib.Omega.{arith}
+-- `bank::Bank::credit` is step 1 within the bank's limits, by the two cases of their test. Assumes nothing.
+use mathlib.Core.Path.{sym, _∙_}
 use borrow.Author.Needs.{needs}
-use Rattle.bank.specs.Laws.BankLaws.{Crediting, credit-start, credit-step, credit-done, credit-moderate, credit-exact}
+use Rattle.bank.specs.Laws.BankLaws.{credit-within, credit-beyond}
 use Rattle.bank.proofs.Bank.credit.Statement.{statement}
 use Rattle.bank.proofs.Bank.credit.Tie as tie
 
-abbrev Inv-loop : tie.InvT-loop
-Inv-loop rate pending balance₀ charge₀ g₀ balance charge g = Crediting balance₀ pending rate g balance charge × (g ≤ 8)
+takes-requires : tie.Need-takes-requires
+takes-requires c κs = search needs
 
-abbrev μ-loop : tie.MeasureT-loop
-μ-loop rate pending balance₀ charge₀ g₀ balance charge g = 8 - g
+credited-requires : tie.Need-credited-requires
+credited-requires c κs = sym (c .before .takes .ensures) ∙ c .if1 .taken
 
-loop-holds : tie.Need-loop-holds Inv-loop μ-loop
-loop-holds c = (credit-start _ _ _ (search needs), search needs)
+returns : tie.Need-returns
+returns c = c .credited .ensures ∙ sym (credit-within _ _ _ (sym (c .before .before .takes .ensures) ∙ c .before .if1 .taken))
 
-mul-balance : tie.Need-mul-balance Inv-loop μ-loop
-mul-balance c = search needs
-
-array-read-balance : tie.Need-array-read-balance Inv-loop μ-loop
-array-read-balance c = search needs
-
-portion-up-requires : tie.Need-portion-up-requires Inv-loop μ-loop
-portion-up-requires c κs = let h = credit-moderate _ _ _ (c .before .before .before .pre) (c .before .loop .inv .0) (search needs) in search needs
-
-mul-balance-2 : tie.Need-mul-balance-2 Inv-loop μ-loop
-mul-balance-2 c = search needs
-
-array-read-balance-2 : tie.Need-array-read-balance-2 Inv-loop μ-loop
-array-read-balance-2 c = search needs
-
-sub-balance : tie.Need-sub-balance Inv-loop μ-loop
-sub-balance c = credit-exact _ _ _ (c .before .before .before .before .before .pre) _ (c .before .portion-up .ensures)
-
-mul-balance-3 : tie.Need-mul-balance-3 Inv-loop μ-loop
-mul-balance-3 c = search needs
-
-array-read-balance-3 : tie.Need-array-read-balance-3 Inv-loop μ-loop
-array-read-balance-3 c = search needs
-
-add-balance : tie.Need-add-balance Inv-loop μ-loop
-add-balance c = omega (arith, credit-moderate _ _ _ (c .before .before .before .before .before .pre) (c .before .before .before .loop .inv .0) (omega arith))
-
-array-write-balance : tie.Need-array-write-balance Inv-loop μ-loop
-array-write-balance c = search needs
-
-mul-charge : tie.Need-mul-charge Inv-loop μ-loop
-mul-charge c = search needs
-
-array-write-charge : tie.Need-array-write-charge Inv-loop μ-loop
-array-write-charge c = search needs
-
-add-g : tie.Need-add-g Inv-loop μ-loop
-add-g c = search needs
-
-loop-less : tie.Need-loop-less Inv-loop μ-loop
-loop-less c = search needs
-
-loop-again : tie.Need-loop-again Inv-loop μ-loop
-loop-again c = (credit-step _ _ _ (c .before .before .before .loop .inv .0) (search needs) (c .before .portion-up .ensures), search needs)
-
-returns : tie.Need-returns Inv-loop μ-loop
-returns c = credit-done _ _ _ (c .before .loop .inv .0) (search needs)
+returns-2 : tie.Need-returns-2
+returns-2 c = sym (credit-beyond _ _ _ (sym (c .before .takes .ensures) ∙ c .if1 .left))
 
 pub credit-spec : {M : Type 1} → statement M
-credit-spec =
-    tie.close
-    (tie.spec
-    Inv-loop
-    μ-loop
-    loop-holds
-    mul-balance
-    array-read-balance
-    portion-up-requires
-    mul-balance-2
-    array-read-balance-2
-    sub-balance
-    mul-balance-3
-    array-read-balance-3
-    add-balance
-    array-write-balance
-    mul-charge
-    array-write-charge
-    add-g
-    loop-less
-    loop-again
-    returns)
+credit-spec = tie.close (tie.spec takes-requires credited-requires returns returns-2)
