@@ -33,6 +33,7 @@ pub record Stocked (a : List ℕ) (n : ℕ) (list : List ℕ) (m c : ℕ) (taken
 -- Those of gs, in their order, gave of column c to one who wanted `want`: what each of eight gave, what the column keeps, and what nobody
 -- gives. The other columns stay.
 pub record ColumnSettled (gs : List ℕ) (m c want : ℕ) (list list′ taken : List ℕ) (left : ℕ) : Type 0 where
+  pub room : length taken ≡ 8
   pub taken-is : (g : ℕ) → g < 8 → getD taken g 0 ≡ given gs (column m c list) want g
   pub kept-is : column m c list′ ≡ kept gs (column m c list) want
   pub left-is : left ≡ unmet gs (column m c list) want
@@ -149,6 +150,7 @@ settle-done {i = suc i} h l = absurd (omega arith)
 settle-done {gs} {m} {c} {want} {stock} {a} {list} {taken} {left} {i = zero} h l =
     let rest : settle gs (column m c stock) want .has ≡ column m c list = ap (λ (r : Rest). r .has) (h .is) in
     record {
+      room = h .room;
       taken-is = λ g b. omega (arith, h .both g, ap (λ (f : ℕ → ℕ). f g) rest);
       kept-is = sym rest;
       left-is = sym (ap (λ (r : Rest). r .want) (h .is));
