@@ -1,3 +1,2 @@
 pub mod BankSteps
 pub mod BankLaws
-pub mod DrawingSteps

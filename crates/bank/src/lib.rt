@@ -1,16 +1,11 @@
 // The bank: one balance a generator, with its own calls and limits (steps 1, 2 and 4 of a closing).
 ghost use mathlib.Core.Path.{_≡_};
-ghost use Prim.Native.Nat.{ℕ, _+_, _-_, _<_, _≤_};
 ghost use mathlib.Core.Bool.{true};
-ghost use lib.Dec.{eqb, leb};
-ghost use Rattle.lists.specs.Tables.{table};
-ghost use Rattle.lists.specs.Pairs.{place};
-ghost use Rattle.order_rules.specs.Order.{only};
-ghost use Rattle.order.specs.Laws.KeptOrder.{turnsOf, Held};
-ghost use Rattle.order_rules.specs.Laws.Among.{among};
+ghost use Prim.Native.Nat.{_+_};
+ghost use lib.Dec.{leb};
 ghost use Rattle.energy.specs.Limits.{mostFigure};
 ghost use Rattle.closing_rules.specs.Closing.{cycleEnds};
-ghost use Rattle.bank.specs.Laws.BankSteps.{creditable, creditOf, creditAnswer, drawOf, lapseOf};
+ghost use Rattle.bank.specs.Laws.BankSteps.{creditable, creditOf, creditAnswer, drawAnswer, lapseOf};
 use energy::Wh;
 
 pub struct Bank {
@@ -36,13 +31,6 @@ pub struct Lapse {
     pub lapsed: [u64; 8],
 }
 
-// the bank after all consumers have drawn, what they drew by pair, and what each lacks
-pub struct Drawing {
-    pub bank: Bank,
-    pub drawn: [u64; 128],
-    pub supplied: [u64; 16],
-}
-
 // Whether a balance and what is pending together are within the bank's limit, tested without adding: a sum could wrap.
 fn within(balance: u64, pending: u64) -> bool
     ensures { λ r. ⌜ r ≡ leb (balance + pending) mostFigure ⌝ }
@@ -59,6 +47,9 @@ impl Bank {
 
     // The highest charge rate, in hundredths of a percent.
     pub const MOST_RATE: u64 = record::MOST_RATE;
+
+    // The most generators that it holds balances of.
+    pub const MOST_GENERATORS: usize = record::MOST_GENERATORS as usize;
 
     // Whether the bank takes what is pending at this rate: the rate is within its limit, and so is each balance with what is pending.
     fn takes(self, pending: [u64; 8], rate: u64) -> bool
@@ -102,43 +93,25 @@ impl Bank {
         Credit { bank, charge }
     }
 
-    // What each generator has for the consumer whose links these are: nothing where they are not linked.
-    fn linked(self, links: [u64; 8]) -> [u64; 8]
-        ensures { λ r. ⌜ r ≡ table 8 (among (λ g. eqb (place 8 links g) 1) (place 8 (self .balance))) ⌝ }
-    {
-        let mut stock = [0u64; 8];
-        let mut g: usize = 0;
-        while g < 8 {
-            stock[g] = lists::only_if(links[g] == 1, self.balance[g]);
-            g += 1;
-        }
-        stock
-    }
-
-    // The bank after so much was drawn of each balance.
-    fn less(self, drawn: [u64; 8]) -> Bank
-        requires { ⌜ ((g : ℕ) → g < 8 → place 8 drawn g ≤ place 8 (self .balance) g) ⌝ }
-        ensures { λ r. ⌜ r .balance ≡ table 8 (λ g. place 8 (self .balance) g - place 8 drawn g) ⌝ }
-    {
-        let mut balance = self.balance;
-        let mut g: usize = 0;
-        while g < 8 {
-            balance[g] -= drawn[g];
-            g += 1;
-        }
-        Bank { balance }
-    }
-
-    // Step 2 for one consumer, whose order `keys` holds, by its links: those who are linked give in their order.
+    // Step 2 for one consumer, whose order of n generators `keys` holds: those who are linked give in their order. Beyond the bank's limit
+    // nothing is drawn, and all that was wanted is lacking.
     pub fn draw(self, n: usize, keys: [usize; 8], links: [u64; 8], want: u64) -> Draw
-        requires { ⌜ Held keys n ⌝ }
-        ensures { λ r. ⌜ r ≡ drawOf self (only (λ g. eqb (place 8 links g) 1) (turnsOf keys n)) want ⌝ }
+        ensures { λ r. ⌜ r ≡ drawAnswer self n keys links want ⌝ }
     {
-        let mut stock = self.linked(links);
         let mut drawn = [0u64; 8];
-        let left = order::settle(&keys, n, &mut stock, &mut drawn, want);
-        let bank = self.less(drawn);
-        Draw { bank, drawn, left }
+        if n <= Bank::MOST_GENERATORS {
+            let mut serving = [0usize; 8];
+            let k = order::keep_linked(&keys, n, &links, &mut serving);
+            let mut balance = self.balance;
+            let left = order::settle(&serving, k, &mut balance, 1, 0, &mut drawn, want);
+            let bank = Bank { balance };
+            return Draw { bank, drawn, left };
+        }
+        Draw {
+            bank: self,
+            drawn,
+            left: want,
+        }
     }
 
     // Whether the month that closes is the last of its cycle, of which so many months were gone before.

@@ -1,31 +1,32 @@
 -- The bank's own calls, steps 1, 2 and 4 of a closing, as the code goes through them. Assumes nothing.
-use Prim.Native.Nat.{ℕ, _+_, _-_, _≤_, _<_}
-use mathlib.Core.Path.{_≡_, refl, sym, ap, _∙_}
+use Prim.Native.Nat.{ℕ, _+_, _-_, _*_, _≤_, _<_}
+use mathlib.Core.Path.{_≡_, refl, sym, ap, _∙_, fun-ext}
 use mathlib.Core.Bool.{Bool, true, false}
 use mathlib.Core.List.{List}
+use mathlib.Core.Logic.{⊎-elim}
+use native.Mathlib.Nat.{eq-zero-or-pos}
 use native.Mathlib.Omega.{arith}
-use borrow.Author.Tests.{leb-true, le-leb}
-use lib.Dec.{leb}
-use lib.ListN.{length, getD, set, replicate}
+use borrow.Author.Tests.{leb-true, le-leb, lt-leb}
+use lib.Dec.{eqb, leb}
+use lib.ListN.{length, getD, set, replicate, List·getD-eq-default}
 use Rattle.lists.specs.Tables.{table}
-use Rattle.lists.specs.Laws.TablesLaws.{getD-table, is-table, table-same, Filling, fill-start, fill-step, fill-here, fill-done}
+use Rattle.lists.specs.Laws.TablesLaws.{is-table, Filling, fill-start, fill-step, fill-here, fill-done}
 use Rattle.lists.specs.Pairs.{place}
-use Rattle.lists.specs.Laws.PairsLaws.{place-in}
+use Rattle.lists.specs.Laws.PairsLaws.{place-in, place-out, place-table}
 use Rattle.energy.specs.Energy.{portionUp}
 use Rattle.lists.specs.Laws.TestsLaws.{and-left, and-right, and-both, all-at, all-from}
-use Rattle.energy.specs.Limits.{mostRate, mostFigure}
+use Rattle.energy.specs.Limits.{mostGenerators, mostRate, mostFigure}
 use Rattle.energy.specs.Laws.EnergyLaws.{portion-le}
 use Rattle.order_rules.specs.Order.{only}
-use Rattle.order_rules.specs.Laws.Members.{Below}
 use Rattle.order_rules.specs.Settle.{given, kept, unmet}
-use Rattle.order_rules.specs.Laws.SettleLaws.{given-le, kept-is}
-use Rattle.order_rules.specs.Laws.Among.{among, given-among, unmet-among}
-use Rattle.order.specs.Laws.KeptStock.{Settled, settledIn, settled, settledBy, settled-table}
+use Rattle.order_rules.specs.Laws.SettleLaws.{settle-has}
+use Rattle.order.specs.Laws.KeptOrder.{turnsOf}
+use Rattle.order.specs.Laws.KeptStock.{column, ColumnSettled}
 use Rattle.bank.specs.declared.Bank.{Bank}
 use Rattle.bank.specs.declared.Credit.{Credit}
 use Rattle.bank.specs.declared.Draw.{Draw}
 use Rattle.bank.specs.declared.Lapse.{Lapse}
-use Rattle.bank.specs.Laws.BankSteps.{creditOf, creditable, creditAnswer, drawOf, lapseOf}
+use Rattle.bank.specs.Laws.BankSteps.{creditOf, creditable, creditAnswer, drawOf, drawAnswer, lapseOf}
 
 -- the balances as a rule by generator
 pub balances : (xs : List ℕ) → length xs ≡ 8 → xs ≡ table 8 (place 8 xs)
@@ -102,42 +103,47 @@ module _ (x : Bank) (pending : List ℕ) (rate : ℕ) where
 
 -- ---- step 2, for one consumer
 
--- In an order gs those who pass p are linked; the code settles by all of them, of whom the others have nothing for this consumer.
-module _ (x : Bank) (p : ℕ → Bool) (gs : List ℕ) (want : ℕ) {stock taken rest : List ℕ} {left : ℕ} (low : Below 8 gs)
-    (stock-is : stock ≡ table 8 (among p (place 8 (x .balance)))) (s : settledIn taken rest left ≡ settled gs stock want) where
-  abbrev has : ℕ → ℕ
-  has = place 8 (x .balance)
+-- one number a row: the only column is the balances
+column-place : (xs : List ℕ) → length xs ≡ 8 → column 1 0 xs ≡ place 8 xs
+unfolding column
+column-place xs z = fun-ext at
+  where
+    row : (g : ℕ) → g * 1 + 0 ≡ g
+    row g = omega arith
 
-  settled-so : settledIn taken rest left ≡ settledBy gs (among p has) want
-  settled-so = s ∙ (λ i. settled gs (stock-is i) want) ∙ settled-table gs (among p has) want low
+    at : (g : ℕ) → getD xs (g * 1 + 0) 0 ≡ place 8 xs g
+    at g =
+        ⊎-elim
+        (λ (e : 8 - g ≡ 0). rw (row g, place-out 8 xs g (omega arith)) (List·getD-eq-default xs 0 {n = g} (omega arith)))
+        (λ (l : 0 < 8 - g). rw (row g) (sym (place-in 8 xs g (omega arith))))
+        (eq-zero-or-pos (8 - g))
 
-  taken-is : taken ≡ table 8 (given (only p gs) has want)
-  unfolding settledBy
-  taken-is = ap (λ (v : Settled). v .taken) settled-so ∙ table-same 8 _ _ (λ g l. sym (given-among p gs has want g))
+pub draw-is : (x : Bank) (gs : List ℕ) (want : ℕ) {b t : List ℕ} {left : ℕ} → length (x .balance) ≡ 8 → ColumnSettled gs 1 0 want (x .balance) b t left →
+    _≡_ {A = Draw} (record { bank = record { balance = b }; drawn = t; left = left }) (drawOf x gs want)
+unfolding drawOf
+draw-is x gs want {b} {t} size h =
+    let after = h .size ∙ size in
+    let has = column-place (x .balance) size in
+    let balance = balances b after ∙ ap (table 8) (sym (column-place b after) ∙ h .kept-is ∙ (λ i. kept gs (has i) want)) in
+    let drawn = is-table 0 8 _ t (h .room) (λ g l. h .taken-is g l ∙ (λ i. given gs (has i) want g)) in
+    let left = h .left-is ∙ (λ i. unmet gs (has i) want) in
+    λ i. record { bank = record { balance = balance i }; drawn = drawn i; left = left i }
 
-  taken-at : (g : ℕ) → g < 8 → place 8 taken g ≡ given (only p gs) has want g
-  taken-at g l = place-in 8 taken g l ∙ ap (λ (t : List ℕ). getD t g 0) taken-is ∙ getD-table 8 _ g 0 l
+-- the balances after it, as a rule by generator
+pub draw-leaves : (x : Bank) (gs : List ℕ) (want : ℕ) → place 8 (drawOf x gs want .bank .balance) ≡ kept gs (place 8 (x .balance)) want
+unfolding drawOf kept
+draw-leaves x gs want =
+    place-table 8 _ (λ g l. omega (arith, settle-has gs (place 8 (x .balance)) want g, place-out 8 (x .balance) g l))
 
-  left-is : left ≡ unmet (only p gs) has want
-  unfolding settledBy
-  left-is = ap (λ (v : Settled). v .left) settled-so ∙ sym (unmet-among p gs has want)
+-- the call's answer by the two cases of its test
+module _ (x : Bank) (n : ℕ) (keys links : List ℕ) (want : ℕ) where
+  pub draw-within : n ≤ mostGenerators → drawAnswer x n keys links want ≡ drawOf x (only (λ g. eqb (place 8 links g) 1) (turnsOf keys n)) want
+  unfolding drawAnswer
+  draw-within l = rw (le-leb n mostGenerators l)
 
-  pub taken-few : (g : ℕ) → g < 8 → place 8 taken g ≤ has g
-  taken-few g l = omega (arith, taken-at g l, given-le (only p gs) has want g)
-
-  pub draw-is : {b : Bank} → b .balance ≡ table 8 (λ g. has g - place 8 taken g) → _≡_ {A = Draw} (record { bank = b; drawn = taken; left = left }) (drawOf x (only p gs) want)
-  unfolding drawOf
-  draw-is e =
-      let balance = e ∙ table-same 8 (λ g. has g - place 8 taken g) (kept (only p gs) has want) (λ g l. omega (arith, taken-at g l, kept-is (only p gs) has want g)) in
-      λ i. record { bank = record { balance = balance i }; drawn = taken-is i; left = left-is i }
-
--- a bank made by a rule is drawn on by that rule
-pub drawn-by-rule : (x : Bank) (f : ℕ → ℕ) (gs : List ℕ) (want : ℕ) → Below 8 gs → x .balance ≡ table 8 f →
-    drawOf x gs want ≡ record { bank = record { balance = table 8 (kept gs f want) }; drawn = table 8 (given gs f want); left = unmet gs f want }
-unfolding drawOf settled settledBy
-drawn-by-rule x f gs want b e =
-    let r = ap (λ (l : List ℕ). settled gs l want) e ∙ settled-table gs f want b in
-    λ i. record { bank = record { balance = r i .rest }; drawn = r i .taken; left = r i .left }
+  pub draw-beyond : mostGenerators < n → drawAnswer x n keys links want ≡ record { bank = x; drawn = replicate 8 0; left = want }
+  unfolding drawAnswer
+  draw-beyond l = rw (lt-leb n mostGenerators l) (λ i. record { bank = x; drawn = sym zeros i; left = want })
 
 -- ---- step 4
 

@@ -2,20 +2,20 @@
 use Prim.Native.Nat.{ℕ, _+_, _-_}
 use mathlib.Core.Bool.{Bool, _&&_}
 use mathlib.Core.List.{List}
-use lib.Dec.{leb}
+use lib.Dec.{eqb, leb}
 use Rattle.lists.specs.Tests.{all}
 use Rattle.lists.specs.Choice.{if_then_else_}
 use Rattle.lists.specs.Tables.{table}
-use Rattle.lists.specs.Pairs.{place, pairs}
+use Rattle.lists.specs.Pairs.{place}
 use Rattle.energy.specs.Energy.{portionUp}
-use Rattle.energy.specs.Limits.{mostRate, mostFigure}
+use Rattle.energy.specs.Limits.{mostGenerators, mostRate, mostFigure}
+use Rattle.order_rules.specs.Order.{only}
 use Rattle.order_rules.specs.Settle.{given, kept, unmet}
-use Rattle.closing_rules.specs.Drawing.{stockAt, drawnAt, missingAt}
+use Rattle.order.specs.Laws.KeptOrder.{turnsOf}
 use Rattle.bank.specs.declared.Bank.{Bank}
 use Rattle.bank.specs.declared.Credit.{Credit}
 use Rattle.bank.specs.declared.Draw.{Draw}
 use Rattle.bank.specs.declared.Lapse.{Lapse}
-use Rattle.bank.specs.declared.Drawing.{Drawing}
 
 -- Step 1
 unfoldable pub creditOf : Bank → List ℕ → ℕ → Credit
@@ -39,16 +39,10 @@ drawOf x gs want =
     let has = place 8 (x .balance) in
     record { bank = record { balance = table 8 (kept gs has want) }; drawn = table 8 (given gs has want); left = unmet gs has want }
 
--- Steps 2 and 3 for m consumers, by those who serve each
-unfoldable pub drawingOf : (ℕ → List ℕ) → ℕ → Bank → List ℕ → Drawing
-drawingOf serving m x outstanding =
-    let has = place 8 (x .balance) in
-    let want = place 16 outstanding in
-    record {
-      bank = record { balance = table 8 (stockAt serving has want m) };
-      drawn = pairs 8 16 (drawnAt serving has want);
-      supplied = table 16 (missingAt serving has want);
-    }
+-- what the call answers, for an order of n generators that keys hold, and links: beyond the limit nothing is drawn, and all is lacking
+unfoldable pub drawAnswer : Bank → ℕ → List ℕ → List ℕ → ℕ → Draw
+drawAnswer x n keys links want =
+    if leb n mostGenerators then drawOf x (only (λ g. eqb (place 8 links g) 1) (turnsOf keys n)) want else record { bank = x; drawn = table 8 (λ g. 0); left = want }
 
 -- Step 4: where the cycle ends every balance lapses
 unfoldable pub lapseOf : Bank → Bool → Lapse
