@@ -1,5 +1,6 @@
 pub mod Drawable
-pub mod ClosingMonth
+pub mod DrawingSteps
 pub mod ClosingWritten
+pub mod ClosingMonth
 pub mod ClosingAccepted
 pub mod ClosingReading

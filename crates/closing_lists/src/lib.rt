@@ -1,27 +1,40 @@
 // The lists of a closing, made in the slice of its output.
 ghost use mathlib.Core.Path.{_≡_};
+ghost use Prim.Native.Nat.{_*_};
 ghost use lib.ListN.{length};
+ghost use Rattle.lists.specs.Pairs.{place};
 ghost use Rattle.record.specs.Plan.{suppliers};
 ghost use Rattle.record.specs.Called.{numberOn};
+ghost use Rattle.record_places.specs.RecordSize.{recordBytes};
 ghost use Rattle.record_layout.specs.OnBytes.{planIn, bookIn, recordIn};
 ghost use Rattle.record_layout.specs.Laws.RecordHead.{HeadRead};
-ghost use Rattle.bank.specs.Laws.BankSteps.{drawingOf};
 ghost use Rattle.closing_rules.specs.Closing.{closingOutput, closingRule};
 ghost use Rattle.closing_lists.specs.Laws.Drawable.{Drawable};
-ghost use Rattle.closing_lists.specs.Laws.ClosingWritten.{OutputRoom, sixLists};
-ghost use Rattle.record_places.specs.RecordSize.{recordBytes};
+ghost use Rattle.closing_lists.specs.Laws.DrawingSteps.{Drawn};
+ghost use Rattle.closing_lists.specs.Laws.ClosingWritten.{OutputRoom, fiveLists};
 use bank::Bank;
-use bank::Drawing;
 use record::Counts;
 use record::Terms;
 
-// Steps 2 and 3: consumers 1 to m draw one after the other, each by its order and links where they stand in the record's bytes. The columns
-// and places from m on stay the zeros that they are made with.
-fn draw_all(s: &[u8], bank: Bank, n: usize, m: usize, outstanding: [u64; 16]) -> Drawing
-    requires { ⌜ (length (now s) ≡ recordBytes) × Drawable (planIn (now s)) n m outstanding ⌝ }
-    ensures { λ r. ⌜ r ≡ drawingOf (suppliers (planIn (now (s .entry)))) m bank outstanding ⌝ }
+// the bank after all consumers have drawn, and what each lacks
+struct Drawing {
+    bank: Bank,
+    supplied: [u64; 16],
+}
+
+// Steps 2 and 3: consumers 1 to m draw one after the other, each by its order and links where they stand in the record's bytes. What each
+// draws goes into its column of drawn's stretch.
+fn draw_all(
+    s: &[u8],
+    bank: Bank,
+    n: usize,
+    m: usize,
+    outstanding: [u64; 16],
+    drawn: &mut [u64],
+) -> Drawing
+    requires { ⌜ (length (now s) ≡ recordBytes) × (Drawable (planIn (now s)) n m × (length (now drawn) ≡ n * m)) ⌝ }
+    ensures { λ r. ⌜ Drawn (suppliers (planIn (now (s .entry)))) (place 8 (bank .balance)) (place 16 outstanding) n m m (r .bank) (now (drawn .exit)) (r .supplied) ⌝ }
 {
-    let mut drawn = [0u64; 128];
     let mut supplied = [0u64; 16];
     let mut left = bank;
     let mut c: usize = 0;
@@ -31,22 +44,20 @@ fn draw_all(s: &[u8], bank: Bank, n: usize, m: usize, outstanding: [u64; 16]) ->
         let turn = left.draw(n, keys, links, outstanding[c]);
         let column = turn.drawn;
         let next = turn.bank;
-        output_lists::put_column(&mut drawn, 8, 16, c, &column);
+        output_lists::put_column(drawn, n, m, c, &column);
         supplied[c] = turn.left;
         left = next;
         c += 1;
     }
     Drawing {
         bank: left,
-        drawn,
         supplied,
     }
 }
 
-// The closing's output: each list into its own stretch of the slice.
+// The five lists after drawn's, each into its own stretch.
 fn write_lists(
     out: &mut [u64],
-    drawn: &[u64; 128],
     charge: [u64; 8],
     lapsed: [u64; 8],
     balance: [u64; 8],
@@ -56,16 +67,13 @@ fn write_lists(
     m: usize,
 )
     requires { ⌜ OutputRoom (now out) n m ⌝ }
-    ensures { λ r. ⌜ now (out .exit) ≡ sixLists (now (drawn .entry)) charge lapsed balance outstanding supplied n m ⌝ }
+    ensures { λ r. ⌜ now (out .exit) ≡ fiveLists charge lapsed balance outstanding supplied n m ⌝ }
 {
-    let size = n * m;
-    let lapsed_at = size + n;
-    let bank_at = lapsed_at + n;
+    let bank_at = n + n;
     let open_at = bank_at + n;
     let supplied_at = open_at + m;
-    output_lists::put_pairs(out, 0, drawn, n, m);
-    output_lists::put8(out, size, &charge, n);
-    output_lists::put8(out, lapsed_at, &lapsed, n);
+    output_lists::put8(out, 0, &charge, n);
+    output_lists::put8(out, n, &lapsed, n);
     output_lists::put8(out, bank_at, &balance, n);
     output_lists::put16(out, open_at, &outstanding, m);
     output_lists::put16(out, supplied_at, &supplied, m);
@@ -84,7 +92,8 @@ pub fn make(s: &[u8], terms: Terms, counts: Counts, out: &mut [u64])
     let before = Bank { balance: held };
     let credit = before.credit(pending, terms.rate);
     let charge = credit.charge;
-    let drawing = draw_all(s, credit.bank, n, m, outstanding);
+    let size = n * m;
+    let drawing = draw_all(s, credit.bank, n, m, outstanding, &mut out[0..size]);
     let supplied = drawing.supplied;
     let drawn_on = drawing.bank;
     let lapse = drawn_on.lapse(counts.gone, terms.cycle);
@@ -92,8 +101,7 @@ pub fn make(s: &[u8], terms: Terms, counts: Counts, out: &mut [u64])
     let after = lapse.bank;
     let balance = after.balance;
     write_lists(
-        out,
-        &drawing.drawn,
+        &mut out[size..],
         charge,
         lapsed,
         balance,

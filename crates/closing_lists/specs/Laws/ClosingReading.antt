@@ -1,5 +1,5 @@
 -- What the steps of an accepted closing read of the bytes. Assumes nothing.
-use Prim.Native.Nat.{ℕ, _+_, _*_, _≤_, _<_}
+use Prim.Native.Nat.{ℕ, _+_, _*_, _<_}
 use mathlib.Core.Path.{_≡_, sym, ap, _∙_}
 use mathlib.Core.List.{List}
 use native.Mathlib.Omega.{arith}
@@ -8,10 +8,8 @@ use lib.ListN.{getD}
 use Rattle.lists.specs.Tables.{table}
 use Rattle.lists.specs.Pairs.{place}
 use Rattle.order_rules.specs.Order.{only}
-use Rattle.order_rules.specs.Laws.Members.{Below, below-more}
 use Rattle.order.specs.Laws.KeptOrder.{turnsOf}
 use Rattle.record.specs.Plan.{order, suppliers}
-use Rattle.record.specs.Laws.PlanLaws.{suppliers-within}
 use Rattle.record.specs.declared.Terms.{Terms}
 use Rattle.record.specs.declared.Counts.{Counts}
 use Rattle.record.specs.declared.Generators.{Generators}
@@ -42,7 +40,3 @@ pub suppliers-are : (s : List ℕ) (c n : ℕ) (keys : List ℕ) {links : List �
     only (λ g. eqb (place 8 links g) 1) (turnsOf keys n) ≡ suppliers (planIn s) c
 unfolding suppliers
 suppliers-are s c n keys l turns links-are = rw (turns, link-column s c l links-are)
-
--- they are generators of the record's width
-pub suppliers-few : (s : List ℕ) (c : ℕ) {n : ℕ} → n ≡ planIn s .G → n ≤ 8 → Below 8 (suppliers (planIn s) c)
-suppliers-few s c e h = below-more (planIn s .G) 8 (suppliers (planIn s) c) (omega arith) (suppliers-within (planIn s) c)

@@ -24,10 +24,7 @@ pub record ColumnAt (n w o c : ℕ) (f : ℕ → ℕ) (out out′ : List ℕ) : 
   pub before : (k : ℕ) → k < o → getD out′ k 0 ≡ getD out k 0
   pub after : (k : ℕ) → o + n * w ≤ k → getD out′ k 0 ≡ getD out k 0
 
--- ---- a pair list of 8 rows of 16 places that is filled column by column
-
--- the first c columns of m are f's, the others zeros
-pub record Columns (f : ℕ → ℕ → ℕ) (c : ℕ) (m : List ℕ) : Type 0 where
-  pub size : length m ≡ 128
-  pub done : (g x : ℕ) → g < 8 → x < c → getD m (g * 16 + x) 0 ≡ f g x
-  pub later : (g x : ℕ) → g < 8 → c ≤ x → x < 16 → getD m (g * 16 + x) 0 ≡ 0
+-- the first c columns of the list are f's
+pub record Columns (n w : ℕ) (f : ℕ → ℕ → ℕ) (c : ℕ) (m : List ℕ) : Type 0 where
+  pub size : length m ≡ n * w
+  pub done : (g x : ℕ) → g < n → x < c → getD m (g * w + x) 0 ≡ f g x

@@ -8,13 +8,12 @@ use native.Mathlib.Nat.{eq-or-lt-of-le, eq-zero-or-pos, mul-le-mul}
 use native.Mathlib.Omega.{arith}
 use borrow.Author.Tests.{eqb-true, eqb-false}
 use lib.Dec.{eqb}
-use lib.ListN.{length, getD, drop, set, length-set, replicate, length-replicate}
+use lib.ListN.{length, getD, drop, set, length-set}
 use lib.Seq.{ext-getD, getD-set-same, getD-set-other, getD-take, getD-drop}
 use borrow.Rule.Slice.PartMut.{midOf, putMid, mid-len, same-len-mid}
-use Rattle.lists.specs.Tables.{table}
-use Rattle.lists.specs.Laws.TablesLaws.{getD-table, is-table, zeros-at}
 use Rattle.lists.specs.Pairs.{pairs}
-use Rattle.lists.specs.Laws.PairsLaws.{pairs-table, row-of, column-of, cell-index}
+use Rattle.lists.specs.Laws.PairsLaws.{row-of, column-of, cell-index}
+use Rattle.output_lists.specs.Laws.Stretches.{pairs-is}
 use Rattle.output_lists.specs.Laws.ListPutLaws.{put-within, put-before, put-after}
 use Rattle.output_lists.specs.Laws.Columns.{ColumnPut, ColumnNow, ColumnAt, Columns}
 
@@ -127,35 +126,22 @@ module _ (o e i x : ℕ) (out : List ℕ) (l : o + i < e) (fits : e ≤ length o
           (λ (q : 0 < o - k). put-before o (e - o) out back k (omega arith) (omega arith) ∙ sym (elsewhere k (λ z. omega arith)))
           (eq-zero-or-pos (o - k))
 
--- ---- a pair list that is filled column by column
+-- ---- a list that is filled column by column
 
-pub columns-start : {f : ℕ → ℕ → ℕ} → Columns f 0 (replicate 128 0)
-columns-start {f} =
-    record { size = length-replicate {A = ℕ} 128 0; done = λ g x l b. absurd (omega arith); later = λ g x l b w. zeros-at 128 (g * 16 + x) }
+pub columns-start : {n w : ℕ} {f : ℕ → ℕ → ℕ} {m : List ℕ} → length m ≡ n * w → Columns n w f 0 m
+columns-start z = record { size = z; done = λ g x l b. absurd (omega arith) }
 
-pub columns-step : {f : ℕ → ℕ → ℕ} {m m′ : List ℕ} {c : ℕ} {xs : List ℕ} → Columns f c m → c < 16 → ColumnPut 8 16 m c xs 8 m′ → xs ≡ table 8 (λ g. f g c) → Columns f (c + 1) m′
-columns-step {f} {m} {m′} {c} {xs} h a p e =
+pub columns-step : {n w : ℕ} {f : ℕ → ℕ → ℕ} {m m′ : List ℕ} {c : ℕ} {xs : List ℕ} →
+    Columns n w f c m → c < w → ColumnPut n w m c xs n m′ → ((g : ℕ) → g < n → getD xs g 0 ≡ f g c) → Columns n w f (c + 1) m′
+columns-step {c = c} h a p e =
     record {
       size = p .size;
       done = λ g x l b.
           ⊎-elim
-          (λ (q : x ≡ c). rw q (p .here g l ∙ ap (λ (y : List ℕ). getD y g 0) e ∙ getD-table 8 (λ y. f y c) g 0 l))
+          (λ (q : x ≡ c). rw q (p .here g l ∙ e g l))
           (λ (w : x < c). p .other g x l (omega arith) (λ q. omega arith) ∙ h .done g x l w)
           (eq-or-lt-of-le (omega arith));
-      later = λ g x l b w. p .other g x l w (λ q. omega arith) ∙ h .later g x l (omega arith) w;
     }
 
--- where f is 0 from column c on, the list is f's
-pub columns-pairs : {f : ℕ → ℕ → ℕ} {m : List ℕ} {c : ℕ} → Columns f c m → ((g x : ℕ) → c ≤ x → f g x ≡ 0) → m ≡ pairs 8 16 f
-columns-pairs {f} {m} {c} h z =
-    is-table 0 128 (λ k. f (k / 16) (k % 16)) m (h .size) (λ k b. split k ∙ at (k / 16) (k % 16) (omega arith) (omega arith)) ∙ sym (pairs-table 8 16 f)
-  where
-    split : (k : ℕ) → getD m k 0 ≡ getD m (k / 16 * 16 + k % 16) 0
-    split k = ap (λ (j : ℕ). getD m j 0) (omega arith)
-
-    at : (g x : ℕ) → g < 8 → x < 16 → getD m (g * 16 + x) 0 ≡ f g x
-    at g x l w =
-        ⊎-elim
-        (λ (e : c - x ≡ 0). let b : c ≤ x = omega arith in h .later g x l b w ∙ sym (z g x b))
-        (λ (b : 0 < c - x). h .done g x l (omega arith))
-        (eq-zero-or-pos (c - x))
+pub columns-pairs : {n w : ℕ} {f : ℕ → ℕ → ℕ} {m : List ℕ} → Columns n w f w m → m ≡ pairs n w f
+columns-pairs {n} {w} {f} {m} h = pairs-is n w f m (h .size) (h .done)
