@@ -72,11 +72,11 @@ fn write_lists(
     let bank_at = n + n;
     let open_at = bank_at + n;
     let supplied_at = open_at + m;
-    output_lists::put8(out, 0, &charge, n);
-    output_lists::put8(out, n, &lapsed, n);
-    output_lists::put8(out, bank_at, &balance, n);
-    output_lists::put16(out, open_at, &outstanding, m);
-    output_lists::put16(out, supplied_at, &supplied, m);
+    output_lists::put_list(out, 0, &charge, n);
+    output_lists::put_list(out, n, &lapsed, n);
+    output_lists::put_list(out, bank_at, &balance, n);
+    output_lists::put_list(out, open_at, &outstanding, m);
+    output_lists::put_list(out, supplied_at, &supplied, m);
 }
 
 // Steps 1 to 4 on what the record holds for them, and their lists into the slice.

@@ -1,4 +1,3 @@
 pub mod Members
 pub mod OrderLaws
 pub mod SettleLaws
-pub mod Among

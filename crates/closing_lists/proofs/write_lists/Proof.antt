@@ -17,20 +17,42 @@ add-open-at c = search needs
 add-supplied-at : tie.Need-add-supplied-at
 add-supplied-at c = search needs
 
-put8-requires : tie.Need-put8-requires
-put8-requires c κs = search needs
+slice-aggregate-put-list : tie.Need-slice-aggregate-put-list
+slice-aggregate-put-list c = search needs
 
-put8-requires-2 : tie.Need-put8-requires-2
-put8-requires-2 c κs = search needs
+put-list-requires : tie.Need-put-list-requires
+put-list-requires c κs = search needs
 
-put8-requires-3 : tie.Need-put8-requires-3
-put8-requires-3 c κs = search needs
+slice-aggregate-put-list-2 : tie.Need-slice-aggregate-put-list-2
+slice-aggregate-put-list-2 c = search needs
 
-put16-requires : tie.Need-put16-requires
-put16-requires c κs = search needs
+put-list-requires-2 : tie.Need-put-list-requires-2
+put-list-requires-2 c κs = search needs
 
-put16-requires-2 : tie.Need-put16-requires-2
-put16-requires-2 c κs = search needs
+slice-aggregate-put-list-3 : tie.Need-slice-aggregate-put-list-3
+slice-aggregate-put-list-3 c = search needs
+
+put-list-requires-3 : tie.Need-put-list-requires-3
+put-list-requires-3 c κs = search needs
+
+slice-aggregate-put-list-4 : tie.Need-slice-aggregate-put-list-4
+slice-aggregate-put-list-4 c = search needs
+
+put-list-requires-4 : tie.Need-put-list-requires-4
+put-list-requires-4 c κs = search needs
+
+-- after the fourth list: after the first, and where the function started
+abbrev first : tie.After-put-list4 → tie.After-put-list
+first c = let c₃ = c .before .before .before .before .before in let c₂ = c₃ .before .before .before .before .before in c₂ .before .before .before .before .before
+
+abbrev start : tie.After-put-list4 → tie.Start
+start c = first c .before .before .before .before
+
+slice-aggregate-put-list-5 : tie.Need-slice-aggregate-put-list-5
+slice-aggregate-put-list-5 c = let s = start (c .before .before .before .before) .good in search needs
+
+put-list-requires-5 : tie.Need-put-list-requires-5
+put-list-requires-5 c κs = let s = start (c .before .before .before .before) in search needs
 
 same-length : tie.Need-same-length
 same-length c = search needs
@@ -42,13 +64,12 @@ returns c =
     let c₄ = c₅ .before .before .before .before .before in
     let c₃ = c₄ .before .before .before .before .before in
     let c₂ = c₃ .before .before .before .before .before in
-    let c₁ = c₂ .before .before .before .before .before in
-    let s = c₁ .before .before .before .before in
-    let w₁ = written-put (written-none (s .args .out .now)) (c₁ .put8 .ensures) refl in
-    let w₂ = written-put w₁ (c₂ .put82 .ensures) (sym (zero-add _)) in
-    let w₃ = written-put w₂ (c₃ .put83 .ensures) refl in
-    let w₄ = written-put w₃ (c₄ .put16 .ensures) refl in
-    let w₅ = written-put w₄ (c₅ .put162 .ensures) refl in
+    let s = start c₄ in
+    let w₁ = written-put (written-none (s .args .out .now)) (first c₄ .put-list .ensures) refl in
+    let w₂ = written-put w₁ (c₂ .put-list2 .ensures) (sym (zero-add _)) in
+    let w₃ = written-put w₂ (c₃ .put-list3 .ensures) refl in
+    let w₄ = written-put w₃ (c₄ .put-list4 .ensures) refl in
+    let w₅ = written-put w₄ (c₅ .put-list5 .ensures) refl in
     written-all w₅ (omega (arith, s .pre .size))
 
 pub write-lists-spec : {M : Type 1} → statement M
@@ -58,10 +79,15 @@ write-lists-spec =
     add-bank-at
     add-open-at
     add-supplied-at
-    put8-requires
-    put8-requires-2
-    put8-requires-3
-    put16-requires
-    put16-requires-2
+    slice-aggregate-put-list
+    put-list-requires
+    slice-aggregate-put-list-2
+    put-list-requires-2
+    slice-aggregate-put-list-3
+    put-list-requires-3
+    slice-aggregate-put-list-4
+    put-list-requires-4
+    slice-aggregate-put-list-5
+    put-list-requires-5
     same-length
     returns)

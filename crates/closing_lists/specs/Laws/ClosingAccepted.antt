@@ -1,10 +1,9 @@
 -- What the steps of an accepted closing may rely on, and that they give the output of the rules. Assumes nothing.
-use Prim.Native.Nat.{ℕ, _+_, _*_, _≤_}
+use Prim.Native.Nat.{ℕ, _+_, _*_}
 use mathlib.Core.Path.{_≡_, refl, _∙_}
 use mathlib.Core.Bool.{true}
 use mathlib.Core.List.{List, [], _∷_}
 use native.Mathlib.Omega.{arith}
-use lib.ListN.{length}
 use Rattle.lists.specs.Pairs.{place, joined}
 use Rattle.record.specs.Plan.{suppliers}
 use Rattle.record.specs.Stored.{generatorAt, planOf, figures}
@@ -23,7 +22,7 @@ use Rattle.closing_rules.specs.Laws.ClosingRefusals.{facts, generators-few, con
 use Rattle.closing_lists.specs.Laws.Drawable.{Drawable}
 use Rattle.closing_lists.specs.Laws.DrawingSteps.{Drawn}
 use Rattle.closing_lists.specs.Laws.ClosingMonth.{output-is}
-use Rattle.closing_lists.specs.Laws.ClosingWritten.{OutputRoom, fiveLists}
+use Rattle.closing_lists.specs.Laws.ClosingWritten.{fiveLists}
 
 -- what the steps are handed and read of a record
 pub record StepsRead (r : Record) (terms : Terms) (counts : Counts) (held pending outstanding : List ℕ) : Type 0 where

@@ -10,7 +10,7 @@ use Rattle.lists.specs.Laws.SumsLaws.{sum-cong, sum-falls, never-rises}
 use Rattle.order_rules.specs.Order.{Standing}
 use Rattle.order_rules.specs.Laws.OrderLaws.{Ahead, Sorted}
 use Rattle.order_rules.specs.Laws.Members.{In, Below}
-use Rattle.order_rules.specs.Laws.SettleLaws.{given-sum, given-le, given-all, given-nothing, kept-is, unmet-le, earlier-first}
+use Rattle.order_rules.specs.Laws.SettleLaws.{given-sum, given-le, given-all, kept-is, earlier-first}
 use Rattle.closing_rules.specs.Drawing.{stockAt, drawnAt, missingAt}
 
 module _ (serving : ℕ → List ℕ) (stock want : ℕ → ℕ) where
@@ -53,15 +53,6 @@ module _ (serving : ℕ → List ℕ) (stock want : ℕ → ℕ) where
   pub turn-split : (n t : ℕ) → Below n (serving t) → sum n (λ s. drawn s t) + missing t ≡ want t
   unfolding drawnAt missingAt
   turn-split n t h = given-sum n (serving t) (at t) (want t) h
-
-  -- a turn that wants nothing draws nothing and lacks nothing
-  pub nothing-drawn : (s t : ℕ) → want t ≡ 0 → drawn s t ≡ 0
-  unfolding drawnAt
-  nothing-drawn s t z = given-nothing (serving t) (at t) (want t) s z
-
-  pub nothing-missing : (t : ℕ) → want t ≡ 0 → missing t ≡ 0
-  unfolding missingAt
-  nothing-missing t z = omega (arith, unmet-le (serving t) (at t) (want t))
 
   used-up : (s t : ℕ) → In s (serving t) → 0 < missing t → drawn s t ≡ at t s
   unfolding drawnAt missingAt

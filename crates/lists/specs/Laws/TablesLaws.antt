@@ -6,7 +6,7 @@ use Prim.Native.Nat.{ℕ, zero, suc, _+_, _-_, _≤_, _<_}
 use native.Mathlib.Numerals.{add-one}
 use native.Mathlib.Nat.{eq-or-lt-of-le, eq-zero-or-pos}
 use native.Mathlib.Omega.{arith}
-use lib.ListN.{length, drop, set, getD, length-append, length-drop, List·getD-append, List·getD-eq-default, drop-of-length-le, replicate, getD-replicate}
+use lib.ListN.{length, drop, set, getD, length-append, length-drop, List·getD-append, List·getD-eq-default, drop-of-length-le, replicate}
 use lib.Seq.{ext-getD, getD-at, getD-append-add, getD-drop, drop-cons, set-at}
 use Rattle.lists.specs.Tables.{table}
 
@@ -91,21 +91,6 @@ fill-length {k} {f} {l} {n} {i} h = ap length (h .is) ∙ length-filled l i f (o
 
 pub fill-done : {A : Type 0} {k : ℕ} {f : ℕ → A} {l n : List A} {i : ℕ} → Filling k f l i n → k ≤ i → n ≡ table k f
 fill-done {k} {f} {l} {n} {i} h b = let p : i ≡ k = omega (arith, h .within) in h .is ∙ ap (λ (m : ℕ). filled l m f) p ∙ filled-all l f k (h .size)
-
--- the rest of the array stays as it was made, every place z
-pub fill-rest : {A : Type 0} {k : ℕ} {f : ℕ → A} {n : List A} {i : ℕ} (z : A) → Filling k f (replicate k z) i n → ((j : ℕ) → i ≤ j → j < k → f j ≡ z) → n ≡ table k f
-fill-rest {A} {k} {f} {n} {i} z h rest =
-    h .is ∙ is-table z k f (filled zs i f) (length-filled zs i f (omega (arith, h .within, h .size)) ∙ h .size) at
-  where
-    zs : List A
-    zs = replicate k z
-
-    at : (j : ℕ) → j < k → getD (filled zs i f) j z ≡ f j
-    at j b =
-        ⊎-elim
-        (λ (e : i - j ≡ 0). let l : i ≤ j = omega arith in filled-later zs i f j z l ∙ getD-replicate k j z z b ∙ sym (rest j l b))
-        (λ (p : 0 < i - j). filled-before zs i f j z (omega arith))
-        (eq-zero-or-pos (i - j))
 
 -- a bound on each place is a bound on each number read from the list, past its end too
 pub table-bound : (n : ℕ) (f : ℕ → ℕ) (b : ℕ) → ((k : ℕ) → k < n → f k ≤ b) → (i : ℕ) → getD (table n f) i 0 ≤ b

@@ -132,7 +132,7 @@ kept-is gs has want g = omega (arith, settle-has gs has want g)
 
 -- ---- what comes earlier is used up before what comes later gives anything
 
-pub lower-none : (has : ℕ → ℕ) (g x h : ℕ) → x ≡ 0 → lower has g x h ≡ has h
+lower-none : (has : ℕ → ℕ) (g x h : ℕ) → x ≡ 0 → lower has g x h ≡ has h
 unfolding lower
 lower-none has g x h e = go (eqb h g)
   where
@@ -146,11 +146,6 @@ settle-nothing [] has want h e = refl
 settle-nothing (g ∷ gs) has want h e =
     let y = min (has g) want in
     settle-nothing gs (lower has g y) (want - y) h (omega arith) ∙ lower-none has g y h (omega arith)
-
--- where nothing is wanted nobody gives
-pub given-nothing : (gs : List ℕ) (has : ℕ → ℕ) (want g : ℕ) → want ≡ 0 → given gs has want g ≡ 0
-unfolding given
-given-nothing gs has want g e = omega (arith, settle-nothing gs has want g e)
 
 given-tail : (x : ℕ) (gs : List ℕ) (has : ℕ → ℕ) (want g : ℕ) → (g ≡ x → ⊥) →
     given (x ∷ gs) has want g ≡ given gs (lower has x (min (has x) want)) (want - min (has x) want) g

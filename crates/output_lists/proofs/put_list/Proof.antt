@@ -1,8 +1,8 @@
--- `output_lists::put8` meets its contract: the stretch comes back as the first n numbers.
+-- `output_lists::put_list` meets its contract: the stretch comes back as the first n numbers.
 use Rattle.output_lists.specs.Laws.ListPutLaws.{lent-list}
 use borrow.Author.Needs.{needs}
-use Rattle.output_lists.proofs.put8.Statement.{statement}
-use Rattle.output_lists.proofs.put8.Tie as tie
+use Rattle.output_lists.proofs.put_list.Statement.{statement}
+use Rattle.output_lists.proofs.put_list.Tie as tie
 
 add-end : tie.Need-add-end
 add-end c = search needs
@@ -28,8 +28,8 @@ same-length c = search needs
 returns : tie.Need-returns
 returns c = lent-list _ (c .before .before .write-list .ensures) (search needs)
 
-pub put8-spec : {M : Type 1} → statement M
-put8-spec =
+pub put-list-spec : {M : Type 1} → statement M
+put-list-spec =
     tie.close
     (tie.spec
     add-end
