@@ -1,7 +1,7 @@
 // Lists of a call's output, each put into its own stretch of the slice, whole or by column.
 ghost use mathlib.Core.Path.{_≡_};
 ghost use Prim.Native.Nat.{_+_, _*_, _<_, _≤_};
-ghost use lib.ListN.{length, getD, set};
+ghost use lib.ListN.{length, getD};
 ghost use Rattle.lists.specs.Tables.{table};
 ghost use Rattle.output_lists.specs.Laws.ListPut.{Put};
 ghost use Rattle.output_lists.specs.Laws.Columns.{ColumnPut};
@@ -38,21 +38,4 @@ pub fn put_column(list: &mut [u64], n: usize, m: usize, c: usize, xs: &[u64; 8])
         list[g * m + c] = xs[g];
         g += 1;
     }
-}
-
-// Puts x at place i.
-fn put_number(list: &mut [u64], i: usize, x: u64)
-    requires { ⌜ i < length (now list) ⌝ }
-    ensures { λ _. ⌜ now (list .exit) ≡ set (now (list .entry)) i x ⌝ }
-{
-    list[i] = x;
-}
-
-// The same where the list is a stretch of the output, which starts at place `from` and has `size` numbers.
-pub fn put_number_at(out: &mut [u64], from: usize, size: usize, i: usize, x: u64)
-    requires { ⌜ (from + size ≤ length (now out)) × (i < size) ⌝ }
-    ensures { λ _. ⌜ now (out .exit) ≡ set (now (out .entry)) (from + i) x ⌝ }
-{
-    let to = from + size;
-    put_number(&mut out[from..to], i, x);
 }

@@ -1,15 +1,12 @@
 -- The laws by which columns of a list, and of a stretch that holds one, are put. Assumes nothing.
 use Prim.Native.Nat.{ℕ, _+_, _-_, _*_, _/_, _%_, _≤_, _<_}
 use mathlib.Core.Path.{_≡_, refl, sym, ap, _∙_}
-use mathlib.Core.Bool.{Bool, true, false}
 use mathlib.Core.List.{List}
 use mathlib.Core.Logic.{⊎-elim}
-use native.Mathlib.Nat.{eq-or-lt-of-le, eq-zero-or-pos, mul-le-mul}
+use native.Mathlib.Nat.{eq-or-lt-of-le, mul-le-mul}
 use native.Mathlib.Omega.{arith}
-use borrow.Author.Tests.{eqb-true, eqb-false}
-use lib.Dec.{eqb}
 use lib.ListN.{length, getD, drop, set, length-set}
-use lib.Seq.{ext-getD, getD-set-same, getD-set-other, getD-take, getD-drop}
+use lib.Seq.{getD-set-same, getD-set-other, getD-take, getD-drop}
 use borrow.Rule.Slice.PartMut.{midOf, putMid, mid-len, same-len-mid}
 use Rattle.lists.specs.Pairs.{pairs}
 use Rattle.lists.specs.Laws.PairsLaws.{row-of, column-of, cell-index}
@@ -76,72 +73,3 @@ module _ (n w o e c : ℕ) (whole : o + n * w ≡ e) (in-column : c < w) where
         before = λ k l. put-before o (e - o) out ys k from l;
         after = λ k l. put-after o (e - o) out ys k from size (omega (arith, width));
       }
-
--- ---- one number put into the stretch of a slice from place o on and before place e
-
-module _ (o e i x : ℕ) (out : List ℕ) (l : o + i < e) (fits : e ≤ length out) where
-  lent : List ℕ
-  lent = midOf o (e - o) out
-
-  back : List ℕ
-  back = set lent i x
-
-  lent-size : length lent ≡ e - o
-  unfolding lent
-  lent-size = mid-len o e out fits
-
-  back-size : length back ≡ e - o
-  unfolding back
-  back-size = length-set lent i x ∙ lent-size
-
-  elsewhere : (k : ℕ) → (k ≡ o + i → ⊥) → getD (set out (o + i) x) k 0 ≡ getD out k 0
-  elsewhere k ne = getD-set-other out (o + i) k x 0 ne
-
-  within : (j : ℕ) → o + j < e → getD back j 0 ≡ getD (set out (o + i) x) (o + j) 0
-  unfolding back lent
-  within j b = go (eqb j i) refl
-    where
-      go : (t : Bool) → eqb j i ≡ t → getD back j 0 ≡ getD (set out (o + i) x) (o + j) 0
-      go true t = rw (eqb-true j i t) (getD-set-same lent i x 0 (omega (arith, lent-size)) ∙ sym (getD-set-same out (o + i) x 0 (omega arith)))
-      go false t =
-          let ne = eqb-false j i t in
-          getD-set-other lent i j x 0 ne ∙ getD-take (e - o) (drop o out) j 0 (omega arith) ∙ getD-drop o out j 0 ∙ sym (elsewhere (o + j) (λ q. ne (omega arith)))
-
-  pub number-put : putMid o (e - o) out (set (midOf o (e - o) out) i x) ≡ set out (o + i) x
-  unfolding back lent
-  number-put =
-      ext-getD 0 (putMid o (e - o) out back) (set out (o + i) x) (same-len-mid o (e - o) out back (length-set lent i x) ∙ sym (length-set out (o + i) x)) at
-    where
-      at : (k : ℕ) → k < length (putMid o (e - o) out back) → getD (putMid o (e - o) out back) k 0 ≡ getD (set out (o + i) x) k 0
-      at k b =
-          ⊎-elim
-          (λ (q : o - k ≡ 0).
-          ⊎-elim
-          (λ (r : e - k ≡ 0). put-after o (e - o) out back k (omega arith) back-size (omega arith) ∙ sym (elsewhere k (λ z. omega arith)))
-          (λ (r : 0 < e - k).
-          let j : ℕ = k - o in
-          let z : o + j ≡ k = omega arith in
-          rw (← (z)) (put-within o (e - o) out back j (omega arith) (omega (arith, back-size)) ∙ within j (omega arith)))
-          (eq-zero-or-pos (e - k)))
-          (λ (q : 0 < o - k). put-before o (e - o) out back k (omega arith) (omega arith) ∙ sym (elsewhere k (λ z. omega arith)))
-          (eq-zero-or-pos (o - k))
-
--- ---- a list that is filled column by column
-
-pub columns-start : {n w : ℕ} {f : ℕ → ℕ → ℕ} {m : List ℕ} → length m ≡ n * w → Columns n w f 0 m
-columns-start z = record { size = z; done = λ g x l b. absurd (omega arith) }
-
-pub columns-step : {n w : ℕ} {f : ℕ → ℕ → ℕ} {m m′ : List ℕ} {c : ℕ} {xs : List ℕ} →
-    Columns n w f c m → c < w → ColumnPut n w m c xs n m′ → ((g : ℕ) → g < n → getD xs g 0 ≡ f g c) → Columns n w f (c + 1) m′
-columns-step {c = c} h a p e =
-    record {
-      size = p .size;
-      done = λ g x l b.
-          ⊎-elim
-          (λ (q : x ≡ c). rw q (p .here g l ∙ e g l))
-          (λ (w : x < c). p .other g x l (omega arith) (λ q. omega arith) ∙ h .done g x l w)
-          (eq-or-lt-of-le (omega arith));
-    }
-
-pub columns-pairs : {n w : ℕ} {f : ℕ → ℕ → ℕ} {m : List ℕ} → Columns n w f w m → m ≡ pairs n w f
-columns-pairs {n} {w} {f} {m} h = pairs-is n w f m (h .size) (h .done)
