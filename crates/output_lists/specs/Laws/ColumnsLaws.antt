@@ -73,3 +73,23 @@ module _ (n w o e c : ℕ) (whole : o + n * w ≡ e) (in-column : c < w) where
         before = λ k l. put-before o (e - o) out ys k from l;
         after = λ k l. put-after o (e - o) out ys k from size (omega (arith, width));
       }
+
+-- ---- a list that is filled column by column
+
+pub columns-start : {n w : ℕ} {f : ℕ → ℕ → ℕ} {m : List ℕ} → length m ≡ n * w → Columns n w f 0 m
+columns-start z = record { size = z; done = λ g x l b. absurd (omega arith) }
+
+pub columns-step : {n w : ℕ} {f : ℕ → ℕ → ℕ} {m m′ : List ℕ} {c : ℕ} {xs : List ℕ} →
+    Columns n w f c m → c < w → ColumnPut n w m c xs n m′ → ((g : ℕ) → g < n → getD xs g 0 ≡ f g c) → Columns n w f (c + 1) m′
+columns-step {c = c} h a p e =
+    record {
+      size = p .size;
+      done = λ g x l b.
+          ⊎-elim
+          (λ (q : x ≡ c). rw q (p .here g l ∙ e g l))
+          (λ (w : x < c). p .other g x l (omega arith) (λ q. omega arith) ∙ h .done g x l w)
+          (eq-or-lt-of-le (omega arith));
+    }
+
+pub columns-pairs : {n w : ℕ} {f : ℕ → ℕ → ℕ} {m : List ℕ} → Columns n w f w m → m ≡ pairs n w f
+columns-pairs {n} {w} {f} {m} h = pairs-is n w f m (h .size) (h .done)
