@@ -98,20 +98,16 @@ impl Bank {
     pub fn draw(self, n: usize, keys: [usize; 8], links: [u64; 8], want: u64) -> Draw
         ensures { λ r. ⌜ r ≡ drawAnswer self n keys links want ⌝ }
     {
+        let mut balance = self.balance;
         let mut drawn = [0u64; 8];
+        let mut left = want;
         if n <= Bank::MOST_GENERATORS {
-            let mut serving = [0usize; 8];
-            let k = order::keep_linked(&keys, n, &links, &mut serving);
-            let mut balance = self.balance;
-            let left = order::settle(&serving, k, &mut balance, 1, 0, &mut drawn, want);
-            let bank = Bank { balance };
-            return Draw { bank, drawn, left };
+            let mut serving = keys;
+            let k = order::keep_linked(&mut serving, n, &links);
+            left = order::settle(&serving, k, &mut balance, 1, 0, &mut drawn, want);
         }
-        Draw {
-            bank: self,
-            drawn,
-            left: want,
-        }
+        let bank = Bank { balance };
+        Draw { bank, drawn, left }
     }
 
     // Whether the month that closes is the last of its cycle, of which so many months were gone before.

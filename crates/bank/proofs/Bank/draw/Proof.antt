@@ -22,7 +22,7 @@ start p = p .before .before .before .before .before
 
 settle-requires : tie.Need-settle-requires
 settle-requires c κs =
-    let p = c .before .before .before .before in
+    let p = c .before .before .before in
     record {
       rows = 8;
       few = omega (arith, p .keep-linked .ensures .few);
@@ -36,7 +36,7 @@ settle-requires c κs =
 returns : tie.Need-returns
 returns c =
     let s = c .before in
-    let p = s .before .before .before .before .before in
+    let p = s .before .before .before .before in
     let x = start p .args in
     draw-is (x .self) _ (x .want) (search needs) (s .settle .ensures) ∙ ap (λ (gs : List ℕ). drawOf (x .self) gs (x .want)) (p .keep-linked .ensures .is) ∙
     sym (draw-within _ _ _ _ _ (search needs))
