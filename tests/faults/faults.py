@@ -82,7 +82,7 @@ FAULTS = {
             ("put_at(s, *::MONTH_BLOCKS, counts.monthblocks + 1);",
              "put_at(s, *::MONTH_BLOCKS, counts.monthblocks);"),
         "metered by remainder":
-            ("raise_readings(s, *::METERED, exit);",
+            ("raise_readings(s, *::METERED, exit, m);",
              "raise_numbers(s, *::METERED, out, 4 * size + n, m);"),
         "shortfall listed as underdrawn":
             ("put_column_at(out, 3 * size, n, m, c, shortfall);",

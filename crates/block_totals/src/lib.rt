@@ -43,7 +43,7 @@ fn raise_generators(s: &mut [u8], entry: &[u32], out: &[u64], n: usize, m: usize
     ensures { λ _. ⌜ wordsIn (now (s .exit)) ≡ generatorsRaised n m (now (entry .entry)) (now (out .entry)) (wordsIn (now (s .entry))) ⌝ }
 {
     let size = n * m;
-    record_runs::raise_readings(s, record_places::INJECTED, entry);
+    record_runs::raise_readings(s, record_places::INJECTED, entry, n);
     record_runs::raise_numbers(s, record_places::UNACCOUNTED, out, 4 * size, n);
     record_runs::raise_rows(s, record_places::LOST, out, 0, n, m);
     record_runs::raise_rows(s, record_places::GENERATOR_SET_OFF, out, size, n, m);
@@ -55,7 +55,7 @@ fn raise_consumers(s: &mut [u8], exit: &[u32], out: &[u64], n: usize, m: usize)
     ensures { λ _. ⌜ wordsIn (now (s .exit)) ≡ consumersRaised n m (now (exit .entry)) (now (out .entry)) (wordsIn (now (s .entry))) ⌝ }
 {
     let size = n * m;
-    record_runs::raise_readings(s, record_places::METERED, exit);
+    record_runs::raise_readings(s, record_places::METERED, exit, m);
     record_runs::raise_columns(s, record_places::CONSUMER_SET_OFF, out, size, n, m);
     record_runs::raise_columns(s, record_places::SHORTFALL, out, 3 * size, n, m);
     record_runs::raise_numbers(s, record_places::OUTSTANDING, out, 4 * size + n, m);

@@ -35,14 +35,14 @@ fn column_sum(xs: &[u64], first: usize, n: usize, m: usize, c: usize) -> u64
     sum
 }
 
-// Each of these raises the numbers of the record from place `at` on: by readings, by the n numbers of `xs` that start at `first`,
-// and by the sums of the n rows and of the m columns that start there.
-pub fn raise_readings(s: &mut [u8], at: usize, readings: &[u32])
-    requires { ⌜ Raisable at (length (now readings)) mostRaised (now s) ⌝ }
-    ensures { λ _. ⌜ Raised (from at) (length (now (readings .entry))) (λ i. getD (now (readings .entry)) i 0) (now (s .entry)) (now (s .exit)) ⌝ }
+// Each of these raises the numbers of the record from place `at` on: by the first n readings, by the n numbers of `xs` that start at
+// `first`, and by the sums of the n rows and of the m columns that start there.
+pub fn raise_readings(s: &mut [u8], at: usize, readings: &[u32], n: usize)
+    requires { ⌜ Raisable at n mostRaised (now s) × (n ≤ length (now readings)) ⌝ }
+    ensures { λ _. ⌜ Raised (from at) n (λ i. getD (now (readings .entry)) i 0) (now (s .entry)) (now (s .exit)) ⌝ }
 {
     let mut i: usize = 0;
-    while i < readings.len() {
+    while i < n {
         record_numbers::add_at(s, at + i, lists::wide(readings[i]));
         i += 1;
     }

@@ -11,7 +11,7 @@ mul-size c = search needs
 
 raise-readings-requires : tie.Need-raise-readings-requires
 raise-readings-requires c κs = let start = c .before .before .before .before in
-    fewer _ _ (omega (arith, start .pre .1 .0, start .pre .1 .1 .consumers-few)) (omega arith) (start .pre .0)
+    (fewer _ _ (omega (arith, start .pre .1 .1 .consumers-few)) (omega arith) (start .pre .0), omega (arith, start .pre .1 .0))
 
 raise-columns-requires : tie.Need-raise-columns-requires
 raise-columns-requires c κs =
@@ -19,7 +19,7 @@ raise-columns-requires c κs =
     let start = after-raise-readings .before .before .before .before .before in
     let lists = start .pre .1 .1 in
     let few = lists .consumers-few in
-    let two = next-list 16 16 (omega (arith, start .pre .1 .0, few)) (omega arith) (start .pre .0) (after-raise-readings .raise-readings .ensures) in
+    let two = next-list 16 16 few (omega arith) (start .pre .0) (after-raise-readings .raise-readings .ensures) in
     (fewer _ _ few (omega arith) two, (omega (arith, lists .size), (lists .generators-few, lists .moderate)))
 
 mul-raise-columns : tie.Need-mul-raise-columns
@@ -32,7 +32,7 @@ raise-columns-requires-2 c κs =
     let start = after-raise-readings .before .before .before .before .before in
     let lists = start .pre .1 .1 in
     let few = lists .consumers-few in
-    let two = next-list 16 16 (omega (arith, start .pre .1 .0, few)) (omega arith) (start .pre .0) (after-raise-readings .raise-readings .ensures) in
+    let two = next-list 16 16 few (omega arith) (start .pre .0) (after-raise-readings .raise-readings .ensures) in
     let three = next-list 16 16 few (omega arith) two (after-raise-columns .raise-columns .ensures) in
     (fewer _ _ few (omega arith) three, (omega (arith, lists .size), (lists .generators-few, lists .moderate)))
 
@@ -50,7 +50,7 @@ raise-numbers-requires c κs =
     let start = after-raise-readings .before .before .before .before .before in
     let lists = start .pre .1 .1 in
     let few = lists .consumers-few in
-    let two = next-list 16 16 (omega (arith, start .pre .1 .0, few)) (omega arith) (start .pre .0) (after-raise-readings .raise-readings .ensures) in
+    let two = next-list 16 16 few (omega arith) (start .pre .0) (after-raise-readings .raise-readings .ensures) in
     let three = next-list 16 16 few (omega arith) two (after-raise-columns .raise-columns .ensures) in
     let last = next-list 48 16 (omega arith) (omega arith) three (after-raise-columns2 .raise-columns2 .ensures) in
     (fewer _ _ few (omega arith) last, (omega (arith, lists .size), lists .moderate))
@@ -65,7 +65,7 @@ returns c =
     let after-raise-readings = after-raise-columns .before .before .before .before in
     let start = after-raise-readings .before .before .before .before .before in
     let a = start .args in
-    consumers-all (a .n) (a .m) (a .exit .now) (a .out .now) (a .s .now) (start .pre .1 .0) (after-raise-readings .raise-readings .ensures) (after-raise-columns .raise-columns .ensures) (after-raise-columns2 .raise-columns2 .ensures) (c .before .before .raise-numbers .ensures)
+    consumers-all (a .n) (a .m) (a .exit .now) (a .out .now) (a .s .now) (after-raise-readings .raise-readings .ensures) (after-raise-columns .raise-columns .ensures) (after-raise-columns2 .raise-columns2 .ensures) (c .before .before .raise-numbers .ensures)
 
 pub raise-consumers-spec : {M : Type 1} → statement M
 raise-consumers-spec =

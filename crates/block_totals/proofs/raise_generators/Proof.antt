@@ -11,7 +11,7 @@ mul-size c = search needs
 
 raise-readings-requires : tie.Need-raise-readings-requires
 raise-readings-requires c κs = let start = c .before .before .before .before in
-    fewer _ _ (omega (arith, start .pre .1 .0, start .pre .1 .1 .generators-few)) (omega arith) (start .pre .0)
+    (fewer _ _ (omega (arith, start .pre .1 .1 .generators-few)) (omega arith) (start .pre .0), omega (arith, start .pre .1 .0))
 
 mul-raise-numbers : tie.Need-mul-raise-numbers
 mul-raise-numbers c = search needs
@@ -22,7 +22,7 @@ raise-numbers-requires c κs =
     let start = after-raise-readings .before .before .before .before .before in
     let lists = start .pre .1 .1 in
     let few = lists .generators-few in
-    let two = next-list 8 8 (omega (arith, start .pre .1 .0, few)) (omega arith) (start .pre .0) (after-raise-readings .raise-readings .ensures) in
+    let two = next-list 8 8 few (omega arith) (start .pre .0) (after-raise-readings .raise-readings .ensures) in
     (fewer _ _ few (omega arith) two, (omega (arith, lists .size), lists .moderate))
 
 raise-rows-requires : tie.Need-raise-rows-requires
@@ -32,7 +32,7 @@ raise-rows-requires c κs =
     let start = after-raise-readings .before .before .before .before .before in
     let lists = start .pre .1 .1 in
     let few = lists .generators-few in
-    let two = next-list 8 8 (omega (arith, start .pre .1 .0, few)) (omega arith) (start .pre .0) (after-raise-readings .raise-readings .ensures) in
+    let two = next-list 8 8 few (omega arith) (start .pre .0) (after-raise-readings .raise-readings .ensures) in
     let three = next-list 8 8 few (omega arith) two (after-raise-numbers .raise-numbers .ensures) in
     (fewer _ _ few (omega arith) three, (omega (arith, lists .size), (lists .consumers-few, lists .moderate)))
 
@@ -44,7 +44,7 @@ raise-rows-requires-2 c κs =
     let start = after-raise-readings .before .before .before .before .before in
     let lists = start .pre .1 .1 in
     let few = lists .generators-few in
-    let two = next-list 8 8 (omega (arith, start .pre .1 .0, few)) (omega arith) (start .pre .0) (after-raise-readings .raise-readings .ensures) in
+    let two = next-list 8 8 few (omega arith) (start .pre .0) (after-raise-readings .raise-readings .ensures) in
     let three = next-list 8 8 few (omega arith) two (after-raise-numbers .raise-numbers .ensures) in
     let four = next-list 8 8 few (omega arith) three (after-raise-rows .raise-rows .ensures) in
     (fewer _ _ few (omega arith) four, (omega (arith, lists .size), (lists .consumers-few, lists .moderate)))
@@ -61,7 +61,7 @@ raise-underdrawn-requires c κs =
     let start = after-raise-readings .before .before .before .before .before in
     let lists = start .pre .1 .1 in
     let few = lists .generators-few in
-    let two = next-list 8 8 (omega (arith, start .pre .1 .0, few)) (omega arith) (start .pre .0) (after-raise-readings .raise-readings .ensures) in
+    let two = next-list 8 8 few (omega arith) (start .pre .0) (after-raise-readings .raise-readings .ensures) in
     let three = next-list 8 8 few (omega arith) two (after-raise-numbers .raise-numbers .ensures) in
     let four = next-list 8 8 few (omega arith) three (after-raise-rows .raise-rows .ensures) in
     let five = next-list 8 48 few (omega arith) four (after-raise-rows2 .raise-rows2 .ensures) in
@@ -78,7 +78,7 @@ returns c =
     let after-raise-readings = after-raise-numbers .before .before .before .before in
     let start = after-raise-readings .before .before .before .before .before in
     let a = start .args in
-    generators-all (a .n) (a .m) (a .entry .now) (a .out .now) (a .s .now) (start .pre .1 .0) (after-raise-readings .raise-readings .ensures) (after-raise-numbers .raise-numbers .ensures) (after-raise-rows .raise-rows .ensures) (after-raise-rows2 .raise-rows2 .ensures) (c .before .before .raise-underdrawn .ensures)
+    generators-all (a .n) (a .m) (a .entry .now) (a .out .now) (a .s .now) (after-raise-readings .raise-readings .ensures) (after-raise-numbers .raise-numbers .ensures) (after-raise-rows .raise-rows .ensures) (after-raise-rows2 .raise-rows2 .ensures) (c .before .before .raise-underdrawn .ensures)
 
 pub raise-generators-spec : {M : Type 1} → statement M
 raise-generators-spec =

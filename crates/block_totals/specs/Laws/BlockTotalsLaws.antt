@@ -59,19 +59,19 @@ module _ {b g : ℕ} {f : ℕ → ℕ} {s t : List ℕ} (h : Raisable inadverten
 -- ---- the totals of generators and of consumers, list by list
 
 module _ (n m : ℕ) (readings out s : List ℕ) where
-  pub generators-all : {t u v w x : List ℕ} → length readings ≡ n →
-      Raised (from injectedAt) (length readings) (λ g. getD readings g 0) s t → Raised (from unaccountedAt) n (λ g. getD out (4 * (n * m) + g) 0) t u → Raised (from lostAt) n (rowSum m out 0) u v →
+  pub generators-all : {t u v w x : List ℕ} →
+      Raised (from injectedAt) n (λ g. getD readings g 0) s t → Raised (from unaccountedAt) n (λ g. getD out (4 * (n * m) + g) 0) t u → Raised (from lostAt) n (rowSum m out 0) u v →
       Raised (from generatorSetOffAt) n (rowSum m out (n * m)) v w → Raised (underdrawnPlace (wordsIn w)) n (rowSum m out (2 * (n * m))) w x →
       wordsIn x ≡ generatorsRaised n m readings out (wordsIn s)
   unfolding generatorsRaised fourRaised
-  generators-all e a b c d f = f .is ∙ rw (d .is, c .is, b .is, a .is, e)
+  generators-all a b c d f = f .is ∙ rw (d .is, c .is, b .is, a .is)
 
-  pub consumers-all : {t u v w : List ℕ} → length readings ≡ m →
-      Raised (from meteredAt) (length readings) (λ c. getD readings c 0) s t → Raised (from consumerSetOffAt) m (columnSum n m out (n * m)) t u → Raised (from shortfallAt) m (columnSum n m out (3 * (n * m))) u v →
+  pub consumers-all : {t u v w : List ℕ} →
+      Raised (from meteredAt) m (λ c. getD readings c 0) s t → Raised (from consumerSetOffAt) m (columnSum n m out (n * m)) t u → Raised (from shortfallAt) m (columnSum n m out (3 * (n * m))) u v →
       Raised (from outstandingAt) m (λ c. getD out (4 * (n * m) + n + c) 0) v w →
       wordsIn w ≡ consumersRaised n m readings out (wordsIn s)
   unfolding consumersRaised
-  consumers-all e a b c d = d .is ∙ rw (c .is, b .is, a .is, e)
+  consumers-all a b c d = d .is ∙ rw (c .is, b .is, a .is)
 
   -- what stands behind the generators' totals
   pub generators-behind : {b : ℕ} {t : List ℕ} → n ≤ 8 → Raisable injectedAt 80 b s → wordsIn t ≡ generatorsRaised n m readings out (wordsIn s) → length t ≡ length s → Raisable meteredAt 96 b t

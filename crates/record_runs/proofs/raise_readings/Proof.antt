@@ -2,7 +2,7 @@
 use Prim.Native.Nat.{_-_, _≤_}
 use mathlib.Core.Path.{_∙_}
 use native.Mathlib.Omega.{arith}
-use lib.ListN.{getD, length}
+use lib.ListN.{getD}
 use borrow.Author.Needs.{needs}
 use Rattle.record_layout.specs.Laws.NumbersRaised.{from}
 use Rattle.record_runs.specs.Laws.Raise.{Raised}
@@ -11,10 +11,10 @@ use Rattle.record_runs.proofs.raise_readings.Statement.{statement}
 use Rattle.record_runs.proofs.raise_readings.Tie as tie
 
 abbrev Inv-loop : tie.InvT-loop
-Inv-loop s₀ at readings i₀ s i = (i ≤ length readings) × Raised (from at) i (λ j. getD readings j 0) s₀ s
+Inv-loop s₀ at readings n i₀ s i = (i ≤ n) × Raised (from at) i (λ j. getD readings j 0) s₀ s
 
 abbrev μ-loop : tie.MeasureT-loop
-μ-loop s₀ at readings i₀ s i = length readings - i
+μ-loop s₀ at readings n i₀ s i = n - i
 
 loop-holds : tie.Need-loop-holds Inv-loop μ-loop
 loop-holds c = (omega arith, none-raised)
@@ -36,7 +36,7 @@ add-at-requires c κs =
     let at-loop = c .before .before .before .before in
     let start = at-loop .before .before .before in
     let l = at-loop .loop in
-    let able = start .pre in
+    let able = start .pre .0 in
     (l .inv .1 .size ∙ able .size, (omega (arith, able .placed), omega (arith, next-low able (l .inv .1), c .wide .ensures, c .before .shared-slice-known2 .given (l .i))))
 
 add-i : tie.Need-add-i Inv-loop μ-loop
