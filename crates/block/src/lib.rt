@@ -32,8 +32,20 @@ fn refusal_on(
     }
 }
 
-// One block on the record that the bytes hold. The lists are made in the slice of the output, and the totals are raised in the bytes: nothing
-// is copied on the way.
+// Rules 1 to 8 of a block that is not refused. The lists are made in the slice of the output, and the totals are raised in the bytes:
+// nothing is copied on the way.
+fn settle(s: &mut [u8], terms: Terms, counts: Counts, entry: &[u32], exit: &[u32], out: &mut [u64])
+    requires { ⌜ HeadRead (now s) terms counts × (numberOn (blockRule (now entry) (now exit) (length (now out))) (recordIn (now s)) ≡ 0) ⌝ }
+    ensures { λ _. ⌜ CalledOn (blockRule (now (entry .entry)) (now (exit .entry)) (length (now (out .entry)))) (now (s .entry)) (now (out .entry)) 0 (now (s .exit)) (now (out .exit)) ⌝ }
+{
+    let n = terms.generators as usize;
+    let m = terms.consumers as usize;
+    block_delivery::deliver(s, n, m, entry, out);
+    block_settlement::settle_all(s, n, m, exit, out);
+    block_totals::raise(s, n, m, counts, entry, exit, out);
+}
+
+// One block on the record that the bytes hold.
 pub fn block_on(s: &mut [u8], entry: &[u32], exit: &[u32], out: &mut [u64]) -> u32
     requires { ⌜ length (now s) ≡ recordBytes ⌝ }
     ensures { λ r. ⌜ CalledOn (blockRule (now (entry .entry)) (now (exit .entry)) (length (now (out .entry)))) (now (s .entry)) (now (out .entry)) r (now (s .exit)) (now (out .exit)) ⌝ }
@@ -42,11 +54,7 @@ pub fn block_on(s: &mut [u8], entry: &[u32], exit: &[u32], out: &mut [u64]) -> u
     let counts = record_bytes::loading::load_counts(s);
     let number = refusal_on(s, terms, counts, entry, exit, out.len());
     if number == 0 {
-        let n = terms.generators as usize;
-        let m = terms.consumers as usize;
-        block_delivery::deliver(s, n, m, entry, out);
-        block_settlement::settle_all(s, n, m, exit, out);
-        block_totals::raise(s, n, m, counts, entry, exit, out);
+        settle(s, terms, counts, entry, exit, out);
         return 0;
     }
     number
