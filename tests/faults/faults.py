@@ -233,7 +233,7 @@ FAULTS = {
 
 # What a must-fail edit replaces where no C call can show it, and why.
 HIDDEN = {
-    "Answer { number, after }":
+    "*::Answer { number, after }":
         "the edit is in the call on a record by value; the C call works on the record's bytes",
     "if *::wide(k) > *::MOST_READING {":
         "a block refuses such a reading before it is shared",
