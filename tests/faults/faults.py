@@ -102,10 +102,11 @@ FAULTS = {
         "open not reset": ("*::clear_numbers(s, *::OUTSTANDING, m);", ""),
         "pending not reset": ("*::clear_numbers(s, *::PENDING, n);", ""),
         "lapsed and bank swapped in the output":
-            ("put8(out, lapsed_at, &lapsed, n);", "put8(out, lapsed_at, &balance, n);",
-             "put8(out, bank_at, &balance, n);", "put8(out, bank_at, &lapsed, n);"),
+            ("put_list(out, n, &lapsed, n);", "put_list(out, n, &balance, n);",
+             "put_list(out, bank_at, &balance, n);", "put_list(out, bank_at, &lapsed, n);"),
         "open listed after the drawing":
-            ("put16(out, open_at, &outstanding, m);", "put16(out, open_at, &supplied, m);"),
+            ("put_list(out, open_at, &outstanding, m);",
+             "put_list(out, open_at, &supplied, m);"),
         "longer output allowed": ("size == n * m + 3 * n + 2 * m", "n * m + 3 * n + 2 * m <= size"),
         "charge not taken from the bank":
             ("balance[g] += pending[g] - due.0;", "balance[g] += pending[g];"),
@@ -237,6 +238,8 @@ HIDDEN = {
         "the edit is in the call on a record by value; the C call works on the record's bytes",
     "if *::wide(k) > *::MOST_READING {":
         "a block refuses such a reading before it is shared",
+    "return balance <= *::MOST_ENERGY - pending;":
+        "a closing credits the figures of a sound record, which are within the bank's limit",
 }
 
 # The line of compare.py, and that of reader.py, which knows one call only.
