@@ -297,6 +297,12 @@ def check_everywhere(text):
             yield from missing_edits(f"`{token}`")
 
 
+def check_links(text, found):
+    """A link within the page leads to a heading."""
+    anchors = {re.sub(r"[^\w -]", "", heading.lower()).replace(" ", "-") for heading in found}
+    return (f"no heading for the link #{anchor}" for anchor in re.findall(r"\]\(#([^)]+)\)", text) if anchor not in anchors)
+
+
 def check(text):
     found = sections(text)
     headed = list(headed_clauses(found))
@@ -313,6 +319,7 @@ def check(text):
     yield from check_sound(found)
     yield from check_refusals(found)
     yield from check_bench(found)
+    yield from check_links(text, found)
 
 
 def gaps(text):
