@@ -236,6 +236,8 @@ FAULTS = {
 HIDDEN = {
     "*::Answer { number, after }":
         "the edit is in the call on a record by value; the C call works on the record's bytes",
+    "cycle: 0,":
+        "a refused opening returns this record by value; the C call leaves the bytes",
     "if *::wide(k) > *::MOST_READING {":
         "a block refuses such a reading before it is shared",
     "return balance <= *::MOST_ENERGY - pending;":
