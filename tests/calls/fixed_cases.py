@@ -397,6 +397,11 @@ def unsound_records():
         + calls_on(1, 1)
     yield "C = 0, all else of a new record of 1 x 1", [simple_unit(1, 1), write_call(1, 0)] \
         + calls_on(1, 1)
+    # Zeros but for the other count and a cycle of 1: no clause is broken but that of G, or of C.
+    yield "G = 0, all else sound", [new_record_call(bytes(RECORD_BYTES)), write_call(1, 1), write_call(3, 1),
+                                    close_call(0, 1), simple_schedule(0, 1)]
+    yield "C = 0, all else sound", [new_record_call(bytes(RECORD_BYTES)), write_call(0, 1), write_call(3, 1),
+                                    close_call(1, 0), simple_schedule(1, 0)]
     for G_or_C, value in (("generators", 9), ("generators", over + 3), ("generators", 2**64 - 1),
                           ("consumers", 17), ("consumers", over + 2), ("consumers", wrap),
                           ("generators", 0), ("consumers", 0)):
@@ -407,6 +412,7 @@ def unsound_records():
             ("contracted over", set_to("contracted", KW_LIMIT + 1, 0)),
             ("contracted 2^32 over", set_to("contracted", over + 2_000, 0)),
             ("link 2", set_to("link", 2, 0, 1)), ("link 2^32 + 1", set_to("link", over + 1, 0, 1)),
+            ("link 2, no kW", set_to("link", 2, 1, 1)),
             ("loss over", set_to("loss_rate", LOSS_LIMIT + 1, 2, 1)),
             ("loss over, unlinked", set_to("loss_rate", LOSS_LIMIT + 1, 1, 1)),
             ("loss 2^32", set_to("loss_rate", over, 0, 0)),
