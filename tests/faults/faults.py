@@ -85,8 +85,9 @@ FAULTS = {
             ("raise_readings(s, *::METERED, exit, m);",
              "raise_numbers(s, *::METERED, out, 4 * size + n, m);"),
         "shortfall listed as underdrawn":
-            ("put_column_at(out, 3 * size, n, m, c, shortfall);",
-             "put_column_at(out, 3 * size, n, m, c, underdrawn);"),
+            ("*::put_column(&mut out[third..fourth], n, m, c, short);",
+             "let mut g: usize = 0;\n    while g < n {\n"
+             "        out[third + g * m + c] = out[second + g * m + c];\n        g += 1;\n    }"),
         "all counted where nothing is scheduled":
             ("    if scheduled.0 == 0 {\n        return 0;",
              "    if scheduled.0 == 0 {\n        return entry;"),
@@ -96,7 +97,7 @@ FAULTS = {
         "running shares rounded up":
             ("let share = k * sum / all;", "let share = (k * sum + all - 1) / all;"),
         "shortfall is what is not used of it":
-            ("c, &taken, &has, &short, rest)", "c, &taken, &has, &gap, rest)"),
+            ("*::put_column(&mut out[third..fourth], n, m, c, short);", ""),
     },
     "closing": {
         "open not reset": ("*::clear_numbers(s, *::OUTSTANDING, m);", ""),

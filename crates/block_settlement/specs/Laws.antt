@@ -1,5 +1,5 @@
 pub mod SettlementLent
-pub mod ColumnGiven
+pub mod StretchStocked
 pub mod SettledTo
 pub mod Settles
 pub mod ConsumerPut

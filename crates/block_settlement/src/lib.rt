@@ -1,36 +1,30 @@
 // Rules 5 to 7 of a block, consumer by consumer: each list of the output is settled or written in its own stretch, lent by itself.
 ghost use mathlib.Core.Path.{_≡_};
-ghost use Prim.Native.Nat.{ℕ, _+_, _*_, _<_};
+ghost use Prim.Native.Nat.{ℕ, _+_, _*_, _≤_, _<_};
 ghost use lib.ListN.{length};
-ghost use Rattle.order.specs.Laws.KeptOrder.{turnsOf};
 ghost use Rattle.block_rules.specs.Laws.DeliveredIn.{DeliveredIn};
 ghost use Rattle.block_rules.specs.Settlement.{remainder, blockOutput};
 ghost use Rattle.record_layout.specs.OnBytes.{planIn};
 ghost use Rattle.block_settlement.specs.Laws.SettlementLent.{exitsIn, Ranked};
-ghost use Rattle.block_settlement.specs.Laws.ColumnGiven.{ColumnReady, ColumnGiven};
+ghost use Rattle.block_settlement.specs.Laws.ConsumerPut.{TakenPut};
 ghost use Rattle.block_settlement.specs.Laws.SettledTo.{SettledTo, Remainders};
 
-// Rule 7 for consumer c, in shortfall's stretch: of what is delivered too little, each generator's share of `want`. The result is the
-// remainder.
-fn settle_shortfall(
-    keys: &[usize; 8],
-    n: usize,
-    m: usize,
-    c: usize,
-    want: u64,
-    shortfall: &mut [u64],
-) -> u64
-    requires { ⌜ ColumnReady (now keys) n m c (now shortfall) ⌝ }
-    ensures { λ r. ⌜ ColumnGiven (turnsOf (now (keys .entry)) n) n m c want (now (shortfall .entry)) (now (shortfall .exit)) r ⌝ }
+// What the settlements of consumer c took, in the lists of set off and of shortfall.
+fn put_taken(out: &mut [u64], n: usize, m: usize, c: usize, taken: &[u64; 8], short: &[u64; 8])
+    requires { ⌜ (length (now out) ≡ 4 * (n * m) + n + m) × ((n ≤ 8) × ((m ≤ 16) × (c < m))) ⌝ }
+    ensures { λ _. ⌜ TakenPut n m c (now (taken .entry)) (now (short .entry)) (now (out .entry)) (now (out .exit)) ⌝ }
 {
-    let mut short = [0u64; 8];
-    let remainder = order::settle(keys, n, shortfall, m, c, &mut short, want);
-    output_lists::put_column(shortfall, n, m, c, &short);
-    remainder
+    let size = n * m;
+    let second = 2 * size;
+    let third = 3 * size;
+    let fourth = 4 * size;
+    output_lists::put_column(&mut out[size..second], n, m, c, taken);
+    output_lists::put_column(&mut out[third..fourth], n, m, c, short);
 }
 
 // Rules 5 to 7 for consumer c, whose exit reading is `read`. What is delivered is settled where it stands, in underdrawn's stretch, so that
-// what is underdrawn stays there. The result is the remainder.
+// what is underdrawn stays there. Both settlements come before both puts: so no settlement waits for what was just written. The result is
+// the remainder.
 fn settle_one(s: &[u8], n: usize, m: usize, c: usize, read: u64, out: &mut [u64]) -> u64
     requires { ⌜ Ranked (now s) n m × ((c < m) × (length (now out) ≡ 4 * (n * m) + n + m)) ⌝ }
     ensures { λ r. ⌜ ((E R : ℕ → ℕ) → read ≡ R c → SettledTo (planIn (now (s .entry))) E R c (now (out .entry)) → SettledTo (planIn (now (s .entry))) E R (c + 1) (now (out .exit)) × (r ≡ remainder (planIn (now (s .entry))) E c (R c))) ⌝ }
@@ -42,8 +36,10 @@ fn settle_one(s: &[u8], n: usize, m: usize, c: usize, read: u64, out: &mut [u64]
     let fourth = 4 * size;
     let mut taken = [0u64; 8];
     let left = order::settle(&keys, n, &mut out[second..third], m, c, &mut taken, read);
-    output_lists::put_column(&mut out[size..second], n, m, c, &taken);
-    settle_shortfall(&keys, n, m, c, left, &mut out[third..fourth])
+    let mut short = [0u64; 8];
+    let remainder = order::settle(&keys, n, &mut out[third..fourth], m, c, &mut short, left);
+    put_taken(out, n, m, c, &taken, &short);
+    remainder
 }
 
 // Rules 5 to 7 for all consumers, but for the list of remainders, which are gathered.

@@ -21,20 +21,16 @@ use Rattle.block_rules.specs.Delivery.{delivered, atExit}
 use Rattle.block_rules.specs.Laws.DeliveredIn.{DeliveredIn}
 use Rattle.block_rules.specs.Settlement.{setOff, afterSetOff, underdrawn, shortfall, remainder, blockOutput}
 use Rattle.block_rules.specs.Laws.OutputPlaces.{output-all}
-use Rattle.output_lists.specs.Laws.Columns.{ColumnPut, ColumnAt}
-use Rattle.output_lists.specs.Laws.ColumnsLaws.{put-now, stretch-at, column-lent}
+use Rattle.output_lists.specs.Laws.Columns.{ColumnAt}
+use Rattle.output_lists.specs.Laws.ColumnsLaws.{stretch-at, column-lent}
 use Rattle.output_lists.specs.Laws.ListPutLaws.{put-within, put-before}
-use Rattle.block_settlement.specs.Laws.ColumnGiven.{ColumnGiven}
 use Rattle.block_settlement.specs.Laws.Settles.{SettlesAs, settles-as}
-use Rattle.block_settlement.specs.Laws.ConsumerPut.{ConsumerPut, loss-same, setoff-same, setoff-was, under-same, short-was, after-same, put-length}
+use Rattle.block_settlement.specs.Laws.ConsumerPut.{TakenPut, ConsumerPut, loss-same, setoff-same, setoff-was, under-same, short-other, after-same, put-length}
 use Rattle.block_settlement.specs.Laws.SettledTo.{SettledTo, Remainders}
 
--- the output after underdrawn's stretch, set off's and shortfall's were lent and came back
+-- the output after underdrawn's stretch, and shortfall's, was lent and came back
 abbrev pub underBack : (n m : ℕ) → List ℕ → List ℕ → List ℕ
 underBack n m out under = putMid (2 * (n * m)) (3 * (n * m) - 2 * (n * m)) out under
-
-abbrev pub setoffBack : (n m : ℕ) → List ℕ → List ℕ → List ℕ
-setoffBack n m out setoff = putMid (n * m) (2 * (n * m) - n * m) out setoff
 
 abbrev pub shortBack : (n m : ℕ) → List ℕ → List ℕ → List ℕ
 shortBack n m out short = putMid (3 * (n * m)) (4 * (n * m) - 3 * (n * m)) out short
@@ -74,11 +70,11 @@ module _ (p : Plan) (E R : ℕ → ℕ) where
       }
 
   -- the figures of consumer c are put: those of rules 5 and 6, and of rule 7
-  module _ {c : ℕ} {taken under short : ℕ → ℕ} {out out′ : List ℕ} (h : SettledTo p E R c out) (within : c < p .C)
-      (put : ConsumerPut (p .G) (p .C) c taken under short out out′)
-      (taken-is : (g : ℕ) → g < p .G → taken g ≡ setOff p E c (R c) g)
+  module _ {c : ℕ} {under unused : ℕ → ℕ} {taken short out out′ : List ℕ} (h : SettledTo p E R c out) (within : c < p .C)
+      (put : ConsumerPut (p .G) (p .C) c under unused taken short out out′)
+      (taken-is : (g : ℕ) → g < p .G → getD taken g 0 ≡ setOff p E c (R c) g)
       (under-is : (g : ℕ) → g < p .G → under g ≡ underdrawn p E c (R c) g)
-      (short-is : (g : ℕ) → g < p .G → short g ≡ shortfall p E c (R c) g) where
+      (short-is : (g : ℕ) → g < p .G → getD short g 0 ≡ shortfall p E c (R c) g) where
     at-most : (x : ℕ) → x < c + 1 → (x ≡ c) ⊎ (x < c)
     at-most x l = eq-or-lt-of-le (omega arith)
 
@@ -90,8 +86,8 @@ module _ (p : Plan) (E R : ℕ → ℕ) where
           setoff-is = λ g x k l b.
               setoff-same put (g * p .C + x) (place-of g x k l) ∙
               ⊎-elim
-              (λ (q : x ≡ c). rw q (put .setoff-put .here g k ∙ taken-is g k))
-              (λ (o : x < c). put .setoff-put .other g x k l (λ q. omega arith) ∙ setoff-was put (g * p .C + x) (place-of g x k l) ∙ h .setoff-is g x k l o)
+              (λ (q : x ≡ c). rw q (put .taken-put .setoff-put .here g k ∙ taken-is g k))
+              (λ (o : x < c). put .taken-put .setoff-put .other g x k l (λ q. omega arith) ∙ setoff-was put (g * p .C + x) (place-of g x k l) ∙ h .setoff-is g x k l o)
               (at-most x b);
           underdrawn-is = λ g x k l b.
               under-same put (g * p .C + x) (place-of g x k l) ∙
@@ -103,76 +99,84 @@ module _ (p : Plan) (E R : ℕ → ℕ) where
               under-same put (g * p .C + x) (place-of g x k l) ∙ put .underdrawn-put .other g x k l (λ q. omega arith) ∙ h .delivered-is g x k l (omega arith);
           shortfall-is = λ g x k l b.
               ⊎-elim
-              (λ (q : x ≡ c). rw q (put .shortfall-put .here g k ∙ short-is g k))
-              (λ (o : x < c). put .shortfall-put .other g x k l (λ q. omega arith) ∙ short-was put (g * p .C + x) ∙ h .shortfall-is g x k l o)
+              (λ (q : x ≡ c). rw q (put .taken-put .shortfall-put .here g k ∙ short-is g k))
+              (λ (o : x < c). short-other put g x k l (λ q. omega arith) ∙ h .shortfall-is g x k l o)
               (at-most x b);
-          gap-is = λ g x k l b. put .shortfall-put .other g x k l (λ q. omega arith) ∙ short-was put (g * p .C + x) ∙ h .gap-is g x k l (omega arith);
+          gap-is = λ g x k l b. short-other put g x k l (λ q. omega arith) ∙ h .gap-is g x k l (omega arith);
           unaccounted-is = λ g k. after-same put (4 * size + g) (omega arith) ∙ h .unaccounted-is g k;
         }
 
-  -- The three stretches were lent one after the other: underdrawn's came back settled, set off's with what was taken, shortfall's with what
-  -- each gives of its gap.
-  module _ (c : ℕ) (out under setoff short : List ℕ) where
+  -- A stretch was lent and came back settled: its column is what the settlement keeps.
+  settled-at : {c want left : ℕ} {out ys taken : List ℕ} (o e : ℕ) → c < p .C → o + size ≡ e → e ≤ length out →
+      ColumnSettled (order p c) (p .C) c want (midOf o (e - o) out) ys taken left → ColumnAt (p .G) (p .C) o c (kept (order p c) (column (p .C) c (midOf o (e - o) out)) want) out (putMid o (e - o) out ys)
+  unfolding column
+  settled-at {c} {out = out} {ys} o e within whole fits s =
+      column-lent (p .G) (p .C) o e c whole within {ys = ys} fits
+      (record {
+        size = s .size ∙ mid-len o e out fits ∙ omega arith;
+        here = λ g l. ap (λ (f : ℕ → ℕ). f g) (s .kept-is);
+        other = λ g x l b ne. s .other g x b ne;
+      })
+
+  -- Underdrawn's stretch and shortfall's were lent one after the other and came back settled; then what was taken was put.
+  module _ (c : ℕ) (out under unused : List ℕ) where
     abbrev one : List ℕ
     one = underBack (p .G) (p .C) out under
 
-    abbrev two : List ℕ
-    two = setoffBack (p .G) (p .C) one setoff
+    abbrev had : ℕ → ℕ
+    had = column (p .C) c (midOf (2 * size) (3 * size - 2 * size) out)
 
-    abbrev three : List ℕ
-    three = shortBack (p .G) (p .C) two short
+    abbrev lacked : ℕ → ℕ
+    lacked = column (p .C) c (midOf (3 * size) (4 * size - 3 * size) one)
 
-    module _ {taken : List ℕ} {left rest : ℕ} (h : SettledTo p E R c out) (within : c < p .C) (few : p .G ≤ 8) (below : Below (p .G) (order p c))
+    module _ {taken short out′ : List ℕ} {left rest : ℕ} (h : SettledTo p E R c out) (within : c < p .C) (few : p .G ≤ 8) (below : Below (p .G) (order p c))
         (first : ColumnSettled (order p c) (p .C) c (R c) (midOf (2 * size) (3 * size - 2 * size) out) under taken left)
-        (second : ColumnPut (p .G) (p .C) (midOf size (2 * size - size) one) c taken (p .G) setoff)
-        (third : ColumnGiven (order p c) (p .G) (p .C) c left (midOf (3 * size) (4 * size - 3 * size) two) short rest) where
-      under-put : ColumnAt (p .G) (p .C) (2 * size) c (kept (order p c) (column (p .C) c (midOf (2 * size) (3 * size - 2 * size) out)) (R c)) out one
-      unfolding column
-      under-put =
-          column-lent (p .G) (p .C) (2 * size) (3 * size) c (omega arith) within {ys = under} (omega (arith, h .size))
-          (record {
-            size = first .size ∙ mid-len (2 * size) (3 * size) out (omega (arith, h .size)) ∙ omega arith;
-            here = λ g l. ap (λ (f : ℕ → ℕ). f g) (first .kept-is);
-            other = λ g x l b ne. first .other g x b ne;
-          })
+        (second : ColumnSettled (order p c) (p .C) c left (midOf (3 * size) (4 * size - 3 * size) one) unused short rest)
+        (third : TakenPut (p .G) (p .C) c taken short (shortBack (p .G) (p .C) one unused) out′) where
+      under-put : ColumnAt (p .G) (p .C) (2 * size) c (kept (order p c) had (R c)) out one
+      under-put = settled-at (2 * size) (3 * size) within (omega arith) (omega (arith, h .size)) first
 
-      setoff-put : ColumnAt (p .G) (p .C) size c (λ g. getD taken g 0) one two
-      setoff-put = column-lent (p .G) (p .C) size (2 * size) c (omega arith) within (omega (arith, h .size, under-put .size)) (put-now second)
-
-      short-put : ColumnAt (p .G) (p .C) (3 * size) c (given (order p c) (column (p .C) c (midOf (3 * size) (4 * size - 3 * size) two)) left) two three
-      short-put = column-lent (p .G) (p .C) (3 * size) (4 * size) c (omega arith) within (omega (arith, h .size, under-put .size, setoff-put .size)) (third .now-is)
-
-      put : ConsumerPut (p .G) (p .C) c (λ g. getD taken g 0) (kept (order p c) (column (p .C) c (midOf (2 * size) (3 * size - 2 * size) out)) (R c)) (given (order p c) (column (p .C) c (midOf (3 * size) (4 * size - 3 * size) two)) left) out three
-      put = record { one = one; two = two; underdrawn-put = under-put; setoff-put = setoff-put; shortfall-put = short-put }
+      put : ConsumerPut (p .G) (p .C) c (kept (order p c) had (R c)) (kept (order p c) lacked left) taken short out out′
+      put =
+          record {
+            one = one;
+            two = shortBack (p .G) (p .C) one unused;
+            underdrawn-put = under-put;
+            unused-put = settled-at (3 * size) (4 * size) within (omega arith) (omega (arith, h .size, under-put .size)) second;
+            taken-put = third;
+          }
 
       -- by the rules' own figures: rules 5 and 6 settle what is delivered, rule 7 what it is less than at exit
-      delivering : SettlesAs (p .G) (order p c) (column (p .C) c (midOf (2 * size) (3 * size - 2 * size) out)) (λ g. delivered p g (E g) c) (R c)
+      delivering : SettlesAs (p .G) (order p c) had (λ g. delivered p g (E g) c) (R c)
       unfolding column
       delivering =
           settles-as _ (λ g. delivered p g (E g) c) (R c) below
           (λ g l. stretch-at (p .G) (p .C) (2 * size) (3 * size) c (omega arith) within out g c l within ∙ h .delivered-is g c l within (omega arith))
 
-      lacking : SettlesAs (p .G) (order p c) (column (p .C) c (midOf (3 * size) (4 * size - 3 * size) two)) (λ g. atExit p g (E g) c - delivered p g (E g) c) left
-      unfolding column put
+      lacking : SettlesAs (p .G) (order p c) lacked (λ g. atExit p g (E g) c - delivered p g (E g) c) left
+      unfolding column
       lacking =
           settles-as _ (λ g. atExit p g (E g) c - delivered p g (E g) c) left below
-          (λ g l. stretch-at (p .G) (p .C) (3 * size) (4 * size) c (omega arith) within two g c l within ∙ short-was put (g * p .C + c) ∙ h .gap-is g c l within (omega arith))
+          (λ g l.
+          stretch-at (p .G) (p .C) (3 * size) (4 * size) c (omega arith) within one g c l within ∙ under-put .after (3 * size + (g * p .C + c)) (omega arith) ∙
+          h .gap-is g c l within (omega arith))
 
       left-after : left ≡ afterSetOff p E c (R c)
       unfolding afterSetOff
       left-after = first .left-is ∙ delivering .unmet-is
 
-      pub consumer-settled : SettledTo p E R (c + 1) three
+      pub consumer-settled : SettledTo p E R (c + 1) out′
       unfolding setOff underdrawn shortfall
       consumer-settled =
           settled-step h within put
           (λ g l. first .taken-is g (omega arith) ∙ delivering .given-is g l)
           (λ g l. delivering .kept-is g l ∙ kept-is (order p c) (λ g. delivered p g (E g) c) (R c) g)
-          (λ g l. lacking .given-is g l ∙ ap (λ (w : ℕ). given (order p c) (λ g. atExit p g (E g) c - delivered p g (E g) c) w g) left-after)
+          (λ g l.
+          second .taken-is g (omega arith) ∙ lacking .given-is g l ∙ ap (λ (w : ℕ). given (order p c) (λ g. atExit p g (E g) c - delivered p g (E g) c) w g) left-after)
 
       pub consumer-remainder : rest ≡ remainder p E c (R c)
       unfolding remainder
-      consumer-remainder = third .left-is ∙ lacking .unmet-is ∙ ap (unmet (order p c) (λ g. atExit p g (E g) c - delivered p g (E g) c)) left-after
+      consumer-remainder = second .left-is ∙ lacking .unmet-is ∙ ap (unmet (order p c) (λ g. atExit p g (E g) c - delivered p g (E g) c)) left-after
 
   -- ---- all consumers: the list of remainders was lent too, and came back as their array has them
 
@@ -207,21 +211,21 @@ module _ (p : Plan) (E R : ℕ → ℕ) where
 
 -- ---- one consumer more in the words of the code, which has the counts n and m, the reading, and the order as keys
 
-pub settled-in-turn : (p : Plan) (E R : ℕ → ℕ) (keys : List ℕ) {n m c read left rest : ℕ} {out under taken setoff short : List ℕ} →
+pub settled-in-turn : (p : Plan) (E R : ℕ → ℕ) (keys : List ℕ) {n m c read left rest : ℕ} {out under unused taken short out′ : List ℕ} →
     n ≡ p .G → m ≡ p .C → n ≤ 8 → c < m → read ≡ R c → turnsOf keys n ≡ order p c →
     ColumnSettled (turnsOf keys n) m c read (midOf (2 * (n * m)) (3 * (n * m) - 2 * (n * m)) out) under taken left →
-    ColumnPut n m (midOf (n * m) (2 * (n * m) - n * m) (underBack n m out under)) c taken n setoff →
-    ColumnGiven (turnsOf keys n) n m c left (midOf (3 * (n * m)) (4 * (n * m) - 3 * (n * m)) (setoffBack n m (underBack n m out under) setoff)) short rest →
-    SettledTo p E R c out → SettledTo p E R (c + 1) (shortBack n m (setoffBack n m (underBack n m out under) setoff) short) × (rest ≡ remainder p E c (R c))
+    ColumnSettled (turnsOf keys n) m c left (midOf (3 * (n * m)) (4 * (n * m) - 3 * (n * m)) (underBack n m out under)) unused short rest →
+    TakenPut n m c taken short (shortBack n m (underBack n m out under) unused) out′ →
+    SettledTo p E R c out → SettledTo p E R (c + 1) out′ × (rest ≡ remainder p E c (R c))
 unfolding order
-settled-in-turn p E R keys {c = c} {out = out} {under} {taken} {setoff} {short} en em few within read turns first second third h =
+settled-in-turn p E R keys {c = c} {out = out} {under} {unused} en em few within read turns first second third h =
     let l : c < p .C = omega (arith, em) in
     let k : p .G ≤ 8 = omega (arith, en) in
     let below = order-below (standing p c) (p .G) in
     let a = rw (read, turns, em) at first in
-    let b = rw (en, em) at second in
-    let d = rw (turns, en, em) at third in
-    rw (en, em) (consumer-settled p E R c out under setoff short h l k below (rw en at a) b d, consumer-remainder p E R c out under setoff short h l k below (rw en at a) b d)
+    let b = rw (turns, em) at second in
+    let d = rw (en, em) at third in
+    (consumer-settled p E R c out under unused h l k below (rw en at a) (rw en at b) d, consumer-remainder p E R c out under unused h l k below (rw en at a) (rw en at b) d)
 
 -- ---- and all of them
 
