@@ -10,7 +10,7 @@ ghost use Rattle.block_settlement.specs.Laws.ConsumerPut.{TakenPut};
 ghost use Rattle.block_settlement.specs.Laws.SettledTo.{SettledTo, Remainders};
 
 // What the settlements of consumer c took, in the lists of set off and of shortfall.
-fn put_taken(out: &mut [u64], n: usize, m: usize, c: usize, taken: &[u64; 8], short: &[u64; 8])
+fn put_settled(out: &mut [u64], n: usize, m: usize, c: usize, taken: &[u64; 8], short: &[u64; 8])
     requires { ⌜ (length (now out) ≡ 4 * (n * m) + n + m) × ((n ≤ 8) × ((m ≤ 16) × (c < m))) ⌝ }
     ensures { λ _. ⌜ TakenPut n m c (now (taken .entry)) (now (short .entry)) (now (out .entry)) (now (out .exit)) ⌝ }
 {
@@ -38,7 +38,7 @@ fn settle_one(s: &[u8], n: usize, m: usize, c: usize, read: u64, out: &mut [u64]
     let left = order::settle(&keys, n, &mut out[second..third], m, c, &mut taken, read);
     let mut short = [0u64; 8];
     let remainder = order::settle(&keys, n, &mut out[third..fourth], m, c, &mut short, left);
-    put_taken(out, n, m, c, &taken, &short);
+    put_settled(out, n, m, c, &taken, &short);
     remainder
 }
 

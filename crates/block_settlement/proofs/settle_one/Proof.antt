@@ -71,8 +71,8 @@ settle-requires-2 c κs =
     let size = turned t .args .n * turned t .args .m in
     stretch-stocked _ (3 * size) (4 * size) _ (p .0) (p .1 .0) (t .turns-at .ensures) (omega arith) (search needs)
 
-put-taken-requires : tie.Need-put-taken-requires
-put-taken-requires c κs = search needs
+put-settled-requires : tie.Need-put-settled-requires
+put-settled-requires c κs = search needs
 
 same-length : tie.Need-same-length
 same-length c = search needs
@@ -85,7 +85,7 @@ returns c =
     let first = underdrawn (second .before) in
     let t = settled first in
     let p = turned t .pre in
-    λ E R read. settled-in-turn (planIn (turned t .args .s .now)) E R _ (p .0 .n-is) (p .0 .m-is) (p .0 .n-high) (p .1 .0) read (t .turns-at .ensures) (first .settle .ensures) (second .settle2 .ensures) (put .put-taken .ensures)
+    λ E R read. settled-in-turn (planIn (turned t .args .s .now)) E R _ (p .0 .n-is) (p .0 .m-is) (p .0 .n-high) (p .1 .0) read (t .turns-at .ensures) (first .settle .ensures) (second .settle2 .ensures) (put .put-settled .ensures)
 
 pub settle-one-spec : {M : Type 1} → statement M
 settle-one-spec =
@@ -106,6 +106,6 @@ settle-one-spec =
     part-settle-start-2
     part-settle-end-2
     settle-requires-2
-    put-taken-requires
+    put-settled-requires
     same-length
     returns)

@@ -1,10 +1,10 @@
--- `block_settlement::put_taken` meets its contract: two stretches are lent, and each comes back with its column. Assumes nothing.
+-- `block_settlement::put_settled` meets its contract: two stretches are lent, and each comes back with its column. Assumes nothing.
 use Prim.Native.Nat.{_*_}
 use native.Mathlib.Omega.{arith}
 use borrow.Author.Needs.{needs}
 use Rattle.output_lists.specs.Laws.ColumnsLaws.{put-now, column-lent}
-use Rattle.block_settlement.proofs.put_taken.Statement.{statement}
-use Rattle.block_settlement.proofs.put_taken.Tie as tie
+use Rattle.block_settlement.proofs.put_settled.Statement.{statement}
+use Rattle.block_settlement.proofs.put_settled.Tie as tie
 
 mul-size : tie.Need-mul-size
 mul-size c = search needs
@@ -66,8 +66,8 @@ returns c =
       shortfall-put = column-lent (a .n) (a .m) (3 * size) (4 * size) (a .c) (omega arith) (p .1 .1 .1) (omega (arith, p .0, set-off .size)) (put-now (second .put-column2 .ensures));
     }
 
-pub put-taken-spec : {M : Type 1} → statement M
-put-taken-spec =
+pub put-settled-spec : {M : Type 1} → statement M
+put-settled-spec =
     tie.close
     (tie.spec
     mul-size
