@@ -112,7 +112,7 @@ FAULTS = {
         "charge not taken from the bank":
             ("balance[g] += pending[g] - due.0;", "balance[g] += pending[g];"),
         "all consumers draw what the first lacks":
-            ("links, outstanding[c])", "links, outstanding[0])"),
+            ("keys, outstanding[c])", "keys, outstanding[0])"),
         "months gone not reset": ("{ 0 } else { gone + 1 }", "{ gone } else { gone + 1 }"),
     },
     "sound": {

@@ -93,17 +93,16 @@ impl Bank {
         Credit { bank, charge }
     }
 
-    // Step 2 for one consumer, whose order of n generators `keys` holds: those who are linked give in their order. Beyond the bank's limit
-    // nothing is drawn, and all that was wanted is lacking.
-    pub fn draw(self, n: usize, mut keys: [usize; 8], links: [u64; 8], want: u64) -> Draw
-        ensures { λ r. ⌜ r ≡ drawAnswer self n keys links want ⌝ }
+    // Step 2 for one consumer, whose n suppliers `keys` holds: they give in their order. Beyond the bank's limit nothing is drawn, and all that
+    // was wanted is lacking.
+    pub fn draw(self, n: usize, keys: [usize; 8], want: u64) -> Draw
+        ensures { λ r. ⌜ r ≡ drawAnswer self n keys want ⌝ }
     {
         let mut balance = self.balance;
         let mut drawn = [0u64; 8];
         let mut left = want;
         if n <= Bank::MOST_GENERATORS {
-            let k = order::keep_linked(&mut keys, n, &links);
-            left = order::settle(&keys, k, &mut balance, 1, 0, &mut drawn, want);
+            left = order::settle(&keys, n, &mut balance, 1, 0, &mut drawn, want);
         }
         let bank = Bank { balance };
         Draw { bank, drawn, left }

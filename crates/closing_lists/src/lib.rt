@@ -22,7 +22,7 @@ struct Drawing {
     supplied: [u64; 16],
 }
 
-// Steps 2 and 3: consumers 1 to m draw one after the other, each by its order and links where they stand in the record's bytes. What each
+// Steps 2 and 3: consumers 1 to m draw one after the other, each on its suppliers as they stand in the record's bytes. What each
 // draws goes into its column of drawn's stretch.
 fn draw_all(
     s: &[u8],
@@ -39,9 +39,9 @@ fn draw_all(
     let mut left = bank;
     let mut c: usize = 0;
     while c < m {
-        let keys = record_order::turns_at(s, n, c);
-        let links = record_numbers::column_at(s, record_places::LINK + c);
-        let turn = left.draw(n, keys, links, outstanding[c]);
+        let suppliers = record_order::suppliers_at(s, n, c);
+        let keys = suppliers.keys;
+        let turn = left.draw(suppliers.count, keys, outstanding[c]);
         let column = turn.drawn;
         let next = turn.bank;
         output_lists::put_column(drawn, n, m, c, &column);

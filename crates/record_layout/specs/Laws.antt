@@ -6,4 +6,4 @@ pub mod RecordHead
 pub mod RecordKept
 pub mod NumbersRaised
 pub mod NumbersReplaced
-pub mod RecordColumns
+pub mod PairPlaces

@@ -7,7 +7,7 @@ use mathlib.Core.Logic.{⊎-elim}
 use native.Mathlib.Nat.{eq-zero-or-pos}
 use native.Mathlib.Omega.{arith}
 use borrow.Author.Tests.{leb-true, le-leb, lt-leb}
-use lib.Dec.{eqb, leb}
+use lib.Dec.{leb}
 use lib.ListN.{length, getD, set, replicate, List·getD-eq-default}
 use Rattle.lists.specs.Tables.{table}
 use Rattle.lists.specs.Laws.TablesLaws.{is-table, Filling, fill-start, fill-step, fill-here, fill-done}
@@ -17,7 +17,6 @@ use Rattle.energy.specs.Energy.{portionUp}
 use Rattle.lists.specs.Laws.TestsLaws.{and-left, and-right, and-both, all-at, all-from}
 use Rattle.energy.specs.Limits.{mostGenerators, mostRate, mostFigure}
 use Rattle.energy.specs.Laws.EnergyLaws.{portion-le}
-use Rattle.order_rules.specs.Order.{only}
 use Rattle.order_rules.specs.Settle.{given, kept, unmet}
 use Rattle.order_rules.specs.Laws.SettleLaws.{settle-has}
 use Rattle.order.specs.Laws.KeptOrder.{turnsOf}
@@ -136,12 +135,12 @@ draw-leaves x gs want =
     place-table 8 _ (λ g l. omega (arith, settle-has gs (place 8 (x .balance)) want g, place-out 8 (x .balance) g l))
 
 -- the call's answer by the two cases of its test
-module _ (x : Bank) (n : ℕ) (keys links : List ℕ) (want : ℕ) where
-  pub draw-within : n ≤ mostGenerators → drawAnswer x n keys links want ≡ drawOf x (only (λ g. eqb (place 8 links g) 1) (turnsOf keys n)) want
+module _ (x : Bank) (n : ℕ) (keys : List ℕ) (want : ℕ) where
+  pub draw-within : n ≤ mostGenerators → drawAnswer x n keys want ≡ drawOf x (turnsOf keys n) want
   unfolding drawAnswer
   draw-within l = rw (le-leb n mostGenerators l)
 
-  pub draw-beyond : mostGenerators < n → drawAnswer x n keys links want ≡ record { bank = x; drawn = replicate 8 0; left = want }
+  pub draw-beyond : mostGenerators < n → drawAnswer x n keys want ≡ record { bank = x; drawn = replicate 8 0; left = want }
   unfolding drawAnswer
   draw-beyond l = rw (lt-leb n mostGenerators l) (λ i. record { bank = x; drawn = sym zeros i; left = want })
 

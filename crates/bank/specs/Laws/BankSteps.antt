@@ -2,14 +2,13 @@
 use Prim.Native.Nat.{ℕ, _+_, _-_}
 use mathlib.Core.Bool.{Bool, _&&_}
 use mathlib.Core.List.{List}
-use lib.Dec.{eqb, leb}
+use lib.Dec.{leb}
 use Rattle.lists.specs.Tests.{all}
 use Rattle.lists.specs.Choice.{if_then_else_}
 use Rattle.lists.specs.Tables.{table}
 use Rattle.lists.specs.Pairs.{place}
 use Rattle.energy.specs.Energy.{portionUp}
 use Rattle.energy.specs.Limits.{mostGenerators, mostRate, mostFigure}
-use Rattle.order_rules.specs.Order.{only}
 use Rattle.order_rules.specs.Settle.{given, kept, unmet}
 use Rattle.order.specs.Laws.KeptOrder.{turnsOf}
 use Rattle.bank.specs.declared.Bank.{Bank}
@@ -39,10 +38,9 @@ drawOf x gs want =
     let has = place 8 (x .balance) in
     record { bank = record { balance = table 8 (kept gs has want) }; drawn = table 8 (given gs has want); left = unmet gs has want }
 
--- what the call answers, for an order of n generators that keys hold, and links: beyond the limit nothing is drawn, and all is lacking
-unfoldable pub drawAnswer : Bank → ℕ → List ℕ → List ℕ → ℕ → Draw
-drawAnswer x n keys links want =
-    if leb n mostGenerators then drawOf x (only (λ g. eqb (place 8 links g) 1) (turnsOf keys n)) want else record { bank = x; drawn = table 8 (λ g. 0); left = want }
+-- what the call answers, for n suppliers whose order keys hold: beyond the limit nothing is drawn, and all is lacking
+unfoldable pub drawAnswer : Bank → ℕ → List ℕ → ℕ → Draw
+drawAnswer x n keys want = if leb n mostGenerators then drawOf x (turnsOf keys n) want else record { bank = x; drawn = table 8 (λ g. 0); left = want }
 
 -- Step 4: where the cycle ends every balance lapses
 unfoldable pub lapseOf : Bank → Bool → Lapse

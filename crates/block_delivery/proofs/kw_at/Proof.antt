@@ -3,7 +3,7 @@ use mathlib.Core.Path.{_≡_, sym, _∙_}
 use native.Mathlib.Omega.{arith}
 use borrow.Author.Needs.{needs}
 use Rattle.record_layout.specs.OnBytes.{planIn}
-use Rattle.block_delivery.specs.Laws.DeliveryLentLaws.{kw-at}
+use Rattle.record_layout.specs.Laws.PairPlaces.{kw-at}
 use Rattle.block_delivery.proofs.kw_at.Statement.{statement}
 use Rattle.block_delivery.proofs.kw_at.Tie as tie
 

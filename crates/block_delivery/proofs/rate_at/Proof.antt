@@ -1,7 +1,7 @@
 -- `block_delivery::rate_at` reads the pair's loss rate. Assumes nothing.
 use mathlib.Core.Path.{sym, _∙_}
 use borrow.Author.Needs.{needs}
-use Rattle.block_delivery.specs.Laws.DeliveryLentLaws.{loss-at}
+use Rattle.record_layout.specs.Laws.PairPlaces.{loss-at}
 use Rattle.block_delivery.proofs.rate_at.Statement.{statement}
 use Rattle.block_delivery.proofs.rate_at.Tie as tie
 

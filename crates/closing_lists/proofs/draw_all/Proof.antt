@@ -7,7 +7,6 @@ use Rattle.record.specs.Plan.{suppliers}
 use Rattle.record_layout.specs.OnBytes.{planIn}
 use Rattle.bank.specs.Laws.BankLaws.{draw-within}
 use Rattle.closing_lists.specs.Laws.DrawingSteps.{Drawn, drawing-start, drawing-step}
-use Rattle.closing_lists.specs.Laws.ClosingReading.{suppliers-are}
 use native.Mathlib.Omega.{arith}
 use borrow.Author.Needs.{needs}
 use Rattle.closing_lists.proofs.draw_all.Statement.{statement}
@@ -35,16 +34,10 @@ consumer i = i .before .loop .c
 within : (i : In) → consumer i < 16
 within i = omega (arith, i .loop-test .taken, start i .pre .1 .0 .C-high)
 
-turns-at-requires : tie.Need-turns-at-requires Inv-loop μ-loop
-turns-at-requires i κs =
+suppliers-at-requires : tie.Need-suppliers-at-requires Inv-loop μ-loop
+suppliers-at-requires i κs =
     let p = start i .pre .1 .0 in
-    record { whole = start i .pre .0; n-is = p .G-is; n-high = p .G-high; c-high = within i; orderable = p .orderable }
-
-add-column-at : tie.Need-add-column-at Inv-loop μ-loop
-add-column-at c = search needs
-
-column-at-requires : tie.Need-column-at-requires Inv-loop μ-loop
-column-at-requires c κs = search needs
+    record { whole = start i .pre .0; n-is = p .G-is; n-high = p .G-high; c-high = search needs; orderable = p .orderable }
 
 mul-draw : tie.Need-mul-draw Inv-loop μ-loop
 mul-draw c = search needs
@@ -83,8 +76,8 @@ loop-again c =
     let d = put .before .before .before .before .before in
     let i = drew d in
     let p = start i .pre .1 .0 in
-    let gs = suppliers-are _ (consumer i) _ _ (within i) (d .before .before .turns-at .ensures) (d .before .column-at .ensures) in
-    let turn = rw gs at (d .draw .ensures ∙ draw-within _ _ _ _ _ (p .G-high)) in (
+    let gs = d .before .before .suppliers-at .ensures in
+    let turn = rw (gs .0) at (d .draw .ensures ∙ draw-within _ _ _ _ (gs .1)) in (
       drawing-step _ _ _ _ _ (i .loop-test .taken) (p .C-high) (p .G-high) (i .before .loop .inv .0) (sym (place-in 16 _ _ (within i))) turn (put .put-column .ensures),
       omega (arith, i .loop-test .taken),
     )
@@ -104,9 +97,7 @@ draw-all-spec =
     Inv-loop
     μ-loop
     loop-holds
-    turns-at-requires
-    add-column-at
-    column-at-requires
+    suppliers-at-requires
     mul-draw
     array-read-draw
     draw-requires

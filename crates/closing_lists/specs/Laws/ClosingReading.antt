@@ -1,25 +1,17 @@
 -- What the steps of an accepted closing read of the bytes. Assumes nothing.
-use Prim.Native.Nat.{ℕ, _+_, _*_, _<_}
+use Prim.Native.Nat.{ℕ}
 use mathlib.Core.Path.{_≡_, sym, ap, _∙_}
 use mathlib.Core.List.{List}
-use lib.Dec.{eqb}
-use lib.ListN.{getD}
-use Rattle.lists.specs.Tables.{table}
-use Rattle.lists.specs.Pairs.{place}
-use Rattle.order_rules.specs.Order.{only}
-use Rattle.order.specs.Laws.KeptOrder.{turnsOf}
-use Rattle.record.specs.Plan.{order, suppliers}
 use Rattle.record.specs.declared.Terms.{Terms}
 use Rattle.record.specs.declared.Counts.{Counts}
 use Rattle.record.specs.declared.Generators.{Generators}
 use Rattle.record.specs.declared.Consumers.{Consumers}
 use Rattle.record_layout.specs.Laws.Layout.{run, generators-at, consumers-at}
 use Rattle.record_layout.specs.Laws.RecordHead.{HeadRead}
-use Rattle.record_layout.specs.OnBytes.{planIn, recordIn}
-use Rattle.record_layout.specs.Laws.RecordColumns.{link-column}
+use Rattle.record_layout.specs.OnBytes.{recordIn}
 use Rattle.closing_lists.specs.Laws.ClosingAccepted.{StepsRead}
 use Rattle.record_places.specs.RecordSize.{wordsIn}
-use Rattle.record_places.specs.Laws.Places.{linkAt, bankAt, pendingAt, outstandingAt}
+use Rattle.record_places.specs.Laws.Places.{bankAt, pendingAt, outstandingAt}
 
 pub steps-read : (s : List ℕ) {terms : Terms} {counts : Counts} {held pending outstanding : List ℕ} → HeadRead s terms counts →
     held ≡ run (wordsIn s) 8 bankAt → pending ≡ run (wordsIn s) 8 pendingAt → outstanding ≡ run (wordsIn s) 16 outstandingAt →
@@ -33,9 +25,3 @@ steps-read s head held pending outstanding =
       pending-is = pending ∙ ap (λ (x : Generators). x .pending) (sym (generators-at ws));
       open-is = outstanding ∙ ap (λ (x : Consumers). x .outstanding) (sym (consumers-at ws));
     }
-
--- one consumer's links, read where they stand
-pub suppliers-are : (s : List ℕ) (c n : ℕ) (keys : List ℕ) {links : List ℕ} → c < 16 → turnsOf keys n ≡ order (planIn s) c → links ≡ table 8 (λ g. getD (wordsIn s) (linkAt + c + g * 16) 0) →
-    only (λ g. eqb (place 8 links g) 1) (turnsOf keys n) ≡ suppliers (planIn s) c
-unfolding suppliers
-suppliers-are s c n keys l turns links-are = rw (turns, link-column s c l links-are)
