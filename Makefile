@@ -1,4 +1,4 @@
-# make              proves and builds the library, the example host and program wheel
+# make              proves and builds the library, the examples and program wheel
 # make test         tests/run: all tests that are not proofs
 # make check        .ci/run: the gate. The proofs from nothing, the edits that the prover must refuse, and make test
 # make bench        the library against a plain engine: instructions, time and stack of each call
@@ -13,14 +13,14 @@ CFLAGS = -O2
 INSTALL = install
 
 LIBRARY = target/staticlib/libwheeling.a
-HOST = target/examples/host
+EXAMPLES = target/examples/host target/examples/day
 WHEEL = target/bin/wheel
 SOURCES = crates.txt $(shell find crates -type f)
 
 .PHONY: all test check bench fuzz install clean
 .DELETE_ON_ERROR:
 
-all: $(LIBRARY) $(HOST) $(WHEEL)
+all: $(LIBRARY) $(EXAMPLES) $(WHEEL)
 
 # rt proves what has changed only. The touch tells make that the library is up to date where rt left it as it was.
 $(LIBRARY): $(SOURCES)
@@ -32,9 +32,9 @@ $(WHEEL): $(SOURCES) | $(LIBRARY)
 	rt check wheel
 	@touch $@
 
-$(HOST): examples/host.c include/wheeling.h $(LIBRARY)
+target/examples/%: examples/%.c include/wheeling.h $(LIBRARY)
 	@mkdir -p $(@D)
-	$(CC) -std=c99 -Wall -Wextra -pedantic $(CFLAGS) $(LDFLAGS) -Iinclude -o $@ examples/host.c $(LIBRARY)
+	$(CC) -std=c99 -Wall -Wextra -pedantic $(CFLAGS) $(LDFLAGS) -Iinclude -o $@ $< $(LIBRARY)
 
 test:
 	tests/run

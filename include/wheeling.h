@@ -1,4 +1,5 @@
-/* The energy account of one wheeling unit: opening, schedule, block and closing, over bytes.
+/* The energy account of one wheeling unit: opening, schedule, block and closing, over bytes; and, without a record, the
+ * comparison of a main and a check meter's day.
  *
  * A unit has G generators (1 to 8), C consumers (1 to 16) and one record of 5,752 bytes, which the host keeps.
  * A host opens the unit once, enters a schedule, then one block each 15 minutes, and closes each month:
@@ -10,7 +11,9 @@
  *     wheeling_block(record, ...);      each quarter of an hour
  *     wheeling_close(record, ...);      at the end of each month
  *
- * examples/host.c is a whole host, which keeps its record in a file that a power cut leaves whole.
+ * An estate with a second meter on a line asks wheeling_day which of the two meters' readings to enter, a day at a time.
+ * examples/host.c is a whole host, which keeps its record in a file that a power cut leaves whole; examples/day.c takes a
+ * day from two meters.
  *
  * Numbers and lists
  *   Energy is in whole watt-hours (Wh), capacity in kW; 1 kW is 250 Wh in a block.
@@ -60,6 +63,7 @@ extern "C" {
 #define WHEELING_MONTH_FULL 11u     /* block: the month holds 3,360 blocks; close it first */
 #define WHEELING_UNIT_FULL 12u      /* block: the unit holds 10,000,000 blocks; no further one is accepted */
 #define WHEELING_MONTH_EMPTY 13u    /* closing: the month holds no block */
+#define WHEELING_BOTH_INCOMPLETE 17u /* day: at least one reading is missing in each of the two days */
 
 /* ---- Sizes: g and c stand for the unit's G and C ---- */
 
@@ -85,6 +89,14 @@ extern "C" {
 #define WHEELING_MOST_EXIT_LIST_BYTES 64u
 #define WHEELING_MOST_BLOCK_OUTPUT_BYTES 4288u
 #define WHEELING_MOST_CLOSE_OUTPUT_BYTES 1472u
+
+/* A day of two meters, which has no G and C. */
+#define WHEELING_DAY_BLOCKS 96u
+#define WHEELING_DAY_LIST_BYTES 384u
+#define WHEELING_DAY_OUTPUT_BYTES 16u
+#define WHEELING_MISSING 4294967295u /* in a day's list: the reading of this block is missing */
+#define WHEELING_MAIN_METER 0u       /* in its output */
+#define WHEELING_CHECK_METER 1u
 
 /* The stack that any call needs below its caller's frame, in bytes, at most. `make bench` measures each call; tests/c/stack.c
  * fails where one touches more than this. */
@@ -138,6 +150,20 @@ uint32_t wheeling_block(uint8_t *record, size_t record_bytes,
  * Refuses with 1, 2, 13.
  * With no output (NULL, 0) it changes nothing and tells whether a record is sound: 1 if it is not, otherwise 2. */
 uint32_t wheeling_close(uint8_t *record, size_t record_bytes, uint8_t *output, size_t output_bytes);
+
+/* Compares a day of readings from two meters on one line, a main and a check meter, and says whose day is to be used: the
+ * main meter's if none is missing there, otherwise the check meter's. The day is used whole; the two are not merged.
+ *   main_list, check_list  96 numbers each: the readings of the day's blocks in Wh, WHEELING_MISSING for a missing one. Any
+ *                          other number is a reading here; the limit of a reading is tested by the block
+ *   tolerance              in Wh
+ *   output                 2 numbers: the meter whose day is to be used, WHEELING_MAIN_METER or WHEELING_CHECK_METER; in how
+ *                          many blocks both readings are present and differ by more than the tolerance, 0 to 96, whichever
+ *                          of the two days is to be used
+ * It takes no record and changes nothing but the output. Refuses with 2, 17. */
+uint32_t wheeling_day(const uint8_t *main_list, size_t main_list_bytes,
+                      const uint8_t *check_list, size_t check_list_bytes,
+                      uint32_t tolerance,
+                      uint8_t *output, size_t output_bytes);
 
 /* ---- Where each figure stands in a record ----
  * The place of a figure's 8 bytes, low byte first: for reading only. Generators g from 0 to 7, consumers c from 0 to 15;

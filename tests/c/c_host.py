@@ -51,7 +51,7 @@ def check(what, good, shown=b""):
     counted["checks"] += 1
     if not good:
         counted["failed"] += 1
-        print(f"c_host: FAILED: {what} {shown.decode(errors='replace')}".rstrip())
+        print(f"{Path(sys.argv[0]).stem}: FAILED: {what} {shown.decode(errors='replace')}".rstrip())
     return good
 
 

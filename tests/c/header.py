@@ -1,10 +1,10 @@
 #!/usr/bin/env python3
-"""The header's sizes, numbers and places are document 01's, as the second engine has them.
+"""The header's sizes, numbers and places are the documents', as the second engine has them.
 
     header.py ARCHIVE
 
 A program that prints every macro of the header is made from the header itself, so that none is left
-out, and compiled as C and as C++ without a warning. It also makes the four calls with null
+out, and compiled as C and as C++ without a warning. It also makes the five calls with null
 pointers. Then stack.c shows that no call touches more stack than the header says.
 """
 
@@ -17,8 +17,9 @@ from pathlib import Path
 
 sys.path.insert(0, str(Path(__file__).resolve().parent.parent))
 
-from second.engine import (CONSUMER_PLACES, GENERATOR_PLACES, RECORD_BYTES,  # noqa: E402
-                           RECORD_FORM, RECORD_WORDS, Engine, Record, record_from_bytes)
+from second.engine import (CHECK_METER, CONSUMER_PLACES, GENERATOR_PLACES,  # noqa: E402
+                           MAIN_METER, RECORD_BYTES, RECORD_FORM, RECORD_WORDS, Engine, Record,
+                           record_from_bytes)
 
 REPOSITORY = Path(__file__).resolve().parents[2]  # the folder of what follows
 HEADER = "include/wheeling.h"
@@ -26,14 +27,20 @@ STACK = "tests/c/stack.c"
 COMPILERS = (("gcc", "c99", ".c"), ("g++", "c++98", ".cpp"), ("g++", "c++17", ".cpp"))
 STRICT = ("-O1", "-Wall", "-Wextra", "-pedantic", "-Werror", "-Iinclude")
 
-# The names of document 01's numbers, from 0.
-NUMBERS = ("ACCEPTED", "NOT_SOUND", "WRONG_SIZE", "WRONG_KIND", "WRONG_CAPACITY", "WRONG_LINK",
-           "WRONG_TERMS", "NOT_LINKED", "OVER_CAPACITY", "WRONG_RANK", "READING_TOO_HIGH",
-           "MONTH_FULL", "UNIT_FULL", "MONTH_EMPTY")
-# What the four calls return for null pointers; opening has 1 generator and 1 consumer.
+# The names of what a call returns: document 01's numbers from 0; no C call gives 14 to 16.
+NUMBERS = {name: number for number, name in enumerate((
+    "ACCEPTED", "NOT_SOUND", "WRONG_SIZE", "WRONG_KIND", "WRONG_CAPACITY", "WRONG_LINK",
+    "WRONG_TERMS", "NOT_LINKED", "OVER_CAPACITY", "WRONG_RANK", "READING_TOO_HIGH", "MONTH_FULL",
+    "UNIT_FULL", "MONTH_EMPTY"))} | {"BOTH_INCOMPLETE": 17}
+# Other macros that are a single number, and none of bytes.
+SINGLE = {"MOST_GENERATORS": Engine.MOST_GENERATORS, "MOST_CONSUMERS": Engine.MOST_CONSUMERS,
+          "DAY_BLOCKS": Engine.DAY_BLOCKS, "MISSING": Engine.MISSING, "MAIN_METER": MAIN_METER,
+          "CHECK_METER": CHECK_METER}
+# What the five calls return for null pointers; opening has 1 generator and 1 consumer.
 NULL_CALLS = {"open(1, 1, 0, 1, 0, NULL, 0, NULL, 0, NULL, 0)": 2,
               "schedule(NULL, 0, NULL, 0, NULL, 0)": 1,
-              "block(NULL, 0, NULL, 0, NULL, 0, NULL, 0)": 1, "close(NULL, 0, NULL, 0)": 1}
+              "block(NULL, 0, NULL, 0, NULL, 0, NULL, 0)": 1, "close(NULL, 0, NULL, 0)": 1,
+              "day(NULL, 0, NULL, 0, 0, NULL, 0)": 2}
 
 # Each word of this record is its own place.
 PLACES = record_from_bytes(RECORD_FORM.pack(*range(RECORD_WORDS)))
@@ -77,7 +84,9 @@ def size(name, G, C):
             "KW_LIST": 4 * G * C, "RANK_LIST": 4 * G * C,
             "ENTRY_LIST": 4 * G, "EXIT_LIST": 4 * C,
             "BLOCK_OUTPUT": 8 * Engine().block_output_length(unit),
-            "CLOSE_OUTPUT": 8 * Engine().closing_output_length(unit)}[name]
+            "CLOSE_OUTPUT": 8 * Engine().closing_output_length(unit),
+            "DAY_LIST": 4 * Engine.DAY_BLOCKS,
+            "DAY_OUTPUT": 8 * Engine.DAY_OUTPUT_LENGTH}[name]
 
 
 def place(name, g, c):
@@ -90,11 +99,11 @@ def place(name, g, c):
 
 def expected(name, g, c):
     if name in NUMBERS:
-        return NUMBERS.index(name)
+        return NUMBERS[name]
+    if name in SINGLE:
+        return SINGLE[name]
     if name.startswith("AT_"):
         return place(name[len("AT_"):], g, c)
-    if name in ("MOST_GENERATORS", "MOST_CONSUMERS"):
-        return getattr(Engine, name)
     if name.startswith("MOST_"):
         g, c = Engine.MOST_GENERATORS, Engine.MOST_CONSUMERS
     return size(re.fullmatch(r"(?:MOST_)?(\w+)_BYTES", name)[1], g, c)
@@ -126,8 +135,9 @@ def main():
     names = macros()
     failed = 0
     figures = {name[len("AT_"):].lower() for name, _ in names if name.startswith("AT_")}
-    if figures != set(Record.__slots__) or not set(NUMBERS) < {name for name, _ in names}:
-        print(f"header: FAILED: not all are there, or too many: {figures ^ set(Record.__slots__)}")
+    wrong = (figures ^ set(Record.__slots__)) | ({*NUMBERS, *SINGLE} - {name for name, _ in names})
+    if wrong:
+        print(f"header: FAILED: not all are there, or too many: {wrong}")
         failed += 1
     with tempfile.TemporaryDirectory() as folder:
         for compiler, standard, ending in COMPILERS:

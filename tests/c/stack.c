@@ -12,6 +12,7 @@ static uint8_t stack[STACK], record[WHEELING_RECORD_BYTES];
 static uint8_t generator_list[WHEELING_MOST_GENERATOR_LIST_BYTES], pair_list[WHEELING_MOST_PAIR_LIST_BYTES];
 static uint8_t kw_list[WHEELING_MOST_KW_LIST_BYTES], rank_list[WHEELING_MOST_RANK_LIST_BYTES];
 static uint8_t entry_list[WHEELING_MOST_ENTRY_LIST_BYTES], exit_list[WHEELING_MOST_EXIT_LIST_BYTES];
+static uint8_t main_list[WHEELING_DAY_LIST_BYTES], check_list[WHEELING_DAY_LIST_BYTES];
 static uint8_t output[WHEELING_MOST_BLOCK_OUTPUT_BYTES];
 static uint32_t number;
 static ucontext_t caller, painted;
@@ -38,6 +39,12 @@ static void block(void)
 static void closing(void)
 {
     number = wheeling_close(record, sizeof record, output, WHEELING_MOST_CLOSE_OUTPUT_BYTES);
+}
+
+static void day(void)
+{
+    number = wheeling_day(main_list, sizeof main_list, check_list, sizeof check_list, 9999, output,
+                          WHEELING_DAY_OUTPUT_BYTES);
 }
 
 /* 0 where the call was refused: it then touched less than it can. */
@@ -79,10 +86,13 @@ int main(void)
     fill(rank_list, sizeof rank_list, 7);
     fill(entry_list, sizeof entry_list, 40000);
     fill(exit_list, sizeof exit_list, 30000);
+    fill(main_list, sizeof main_list, 40000);
+    fill(check_list, sizeof check_list, 30000);
     kw_list[0] = 2;
     int good = within("opening", opening);
     good &= within("schedule", schedule);
     good &= within("block", block);
     good &= within("closing", closing);
+    good &= within("day", day);
     return good ? 0 : 1;
 }

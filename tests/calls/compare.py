@@ -1,7 +1,7 @@
 #!/usr/bin/env python3
-"""The test program: runs the library's four C calls and the second engine side by side.
+"""The test program: runs the library's five C calls and the second engine side by side.
 
-    compare.py LIBRARY.so [--lists N] [--months N] [--seed S] [--seconds T] [--unshrunk]
+    compare.py LIBRARY.so [--lists N] [--months N] [--days N] [--seed S] [--seconds T] [--unshrunk]
     compare.py LIBRARY.so --replay FILE
 
 Compared byte for byte after each call: the number, the record and the output; also that the inputs
@@ -30,10 +30,13 @@ from second.calls import HOST_WRITES, SecondUnit, from_text, packed, to_text  # 
 from second.demand_3 import broken_by_record, idle_bank  # noqa: E402
 from second.engine import ACCEPTED, Engine, inputs_from_bytes, record_from_bytes  # noqa: E402
 
-DEFAULT_LISTS = 2_000
-DEFAULT_MONTHS = 200
-NUMBERS = range(14)
-REFUSALS = NUMBERS[1:]
+# Of each kind of random cases.
+DEFAULTS = {"list": 2_000, "month": 200, "day": 5_000}
+UNIT_REFUSALS = range(1, 14)
+DAY_NUMBERS = (ACCEPTED, 2, 17)
+NUMBERS = sorted({*UNIT_REFUSALS, *DAY_NUMBERS})
+# What must be seen, in the random cases where there are as many as in the gate, or more.
+EXPECTED = {"fixed case": NUMBERS, "list": UNIT_REFUSALS, "month": (), "day": DAY_NUMBERS}
 
 
 class CallList(NamedTuple):
@@ -101,12 +104,11 @@ def simpler(call):
             if sum(form) < sum(numbers):
                 yield call._replace(
                     lists=call.lists[:which] + (packed(form),) + call.lists[which + 1:])
-    if call.numbers:
-        for at in (2, 3, 4):
-            for value in (0, 1, call.numbers[at] // 2):
-                if value < call.numbers[at]:
-                    yield call._replace(
-                        numbers=call.numbers[:at] + (value,) + call.numbers[at + 1:])
+    # G and C stay: the lists are as long as they say.
+    for at in range(2 if call.name == "open" else 0, len(call.numbers)):
+        for value in (0, 1, call.numbers[at] // 2):
+            if value < call.numbers[at]:
+                yield call._replace(numbers=call.numbers[:at] + (value,) + call.numbers[at + 1:])
     if call.name == "new_record":
         for at in range(len(call.words)):
             yield call._replace(words=call.words[:at] + call.words[at + 1:])
@@ -121,18 +123,17 @@ def simplify(shrinking, at):
 
 class Compare(SideBySide):
     CODE = "library"
-    NO_CODE = "no library with the four calls"
-    KINDS = ("fixed case", "list", "month")
+    NO_CODE = "no library with the five calls"
+    KINDS = ("fixed case", *DEFAULTS)
     LONGEST_CASE_SECONDS = 60
     TURNS = 2
 
     def add_arguments(self, parser):
-        parser.add_argument("--lists", type=int, default=DEFAULT_LISTS,
-                            help="random lists of calls")
-        parser.add_argument("--months", type=int, default=DEFAULT_MONTHS, help="random months")
+        for kind, count in DEFAULTS.items():
+            parser.add_argument(f"--{kind}s", type=int, default=count, help=f"random {kind}s")
         parser.add_argument("--seconds", type=float,
-                            help="start no further list after half of these seconds, "
-                                 "no further month after the other half")
+                            help="start no further list after a third of these seconds, "
+                                 "no further month after another, no further day after the last")
 
     def load(self):
         return Library(self.path)
@@ -142,12 +143,14 @@ class Compare(SideBySide):
         if kind == "fixed case":
             return (fed(calls) for _, calls in fixed_cases())
         given = self.arguments
-        indices = range(given.lists if kind == "list" else given.months)
+        indices = range(getattr(given, kind + "s"))
         return for_seconds((calls_of(given.seed, kind, index) for index in indices),
-                           given.seconds and given.seconds / 2)
+                           given.seconds and given.seconds / len(DEFAULTS))
 
     def run_case(self, code, kind, case, place, seen):
-        return run_list(code, case, place, seen, kind == "month")
+        # A day is one call: the ways to lend memory go on from day to day.
+        return run_list(code, case, place, seen, kind == "month",
+                        turn=place.case if kind == "day" else 0)
 
     def run_alone(self, code, case, place, turn):
         return run_list(code, fed(case.calls), place, Counter(), case.only_calls, turn)
@@ -206,12 +209,12 @@ class Compare(SideBySide):
         print("number      " + "".join(f"{number:>7}" for number in NUMBERS))
         for kind, _, seen, _ in stretches:
             print(f"{kind + 's':12}" + "".join(f"{seen[number]:>7}" for number in NUMBERS))
-        fixed, lists, _ = stretches
-        if fixed.unseen(REFUSALS):
-            print(f"refusals not seen in the fixed cases: {fixed.unseen(REFUSALS)}")
-            return 1
-        if lists.cases >= DEFAULT_LISTS and lists.unseen(REFUSALS):
-            print(f"refusals not seen in the random lists: {lists.unseen(REFUSALS)}")
+        unseen = {stretch.kind: stretch.unseen(EXPECTED[stretch.kind]) for stretch in stretches
+                  if stretch.cases >= DEFAULTS.get(stretch.kind, 0)}
+        for kind, numbers in unseen.items():
+            if numbers:
+                print(f"numbers not seen in the {kind}s: {numbers}")
+        if any(unseen.values()):
             return 1
         print("no difference")
         return 0

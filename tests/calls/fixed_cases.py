@@ -4,21 +4,24 @@ The second engine says what each call gives; these lists only make sure that the
 Records that no calls lead to are built by hand and lent with `new_record` or `write`.
 """
 
-from itertools import combinations
+from itertools import combinations, product
 
-from second.calls import (Call, SecondUnit, block_call, close_call, new_record_call, open_call,
-                          packed, schedule_call, write_call)
+from harness.lent import GUARD, MOST_LENT
+from second.calls import (PATTERN, Call, SecondUnit, block_call, close_call, day_call,
+                          new_record_call, open_call, packed, schedule_call, write_call)
 from second.document_cases import DOCUMENT_CASES
 from second.engine import (CONSUMER_PLACES, CONSUMER_TERMS, GENERATOR_PLACES, GENERATOR_TERMS,
                            RECORD_BYTES, RECORD_FORM, RECORD_WORDS, Engine, record_from_bytes,
                            record_to_bytes)
-from second.paper_cases import CASES, REFUSAL_EXAMPLES, with_counts
+from second.paper_cases import CASES, DAYS, REFUSAL_EXAMPLES, with_counts
 
 KW_LIMIT = 400_000
 LOSS_LIMIT = 5_000
 READING_LIMIT = 200_000_000
 MONTH_LIMIT = 3_360
 UNIT_LIMIT = 10_000_000
+BLOCKS = Engine.DAY_BLOCKS
+MISSING = Engine.MISSING
 
 
 def fed(calls):
@@ -276,23 +279,26 @@ def resized(data, length, more=b"\0"):
     return (data + more * max(0, length - len(data)))[:length]
 
 
+def with_list(call, which, data):
+    return call._replace(lists=call.lists[:which] + (data,) + call.lists[which + 1:])
+
+
+def other_lengths(call):
+    """Each list, then the output, at lengths around the right one and null."""
+    for which, data in enumerate(call.lists):
+        for length in lengths_around(len(data)):
+            yield with_list(call, which, resized(data, length))
+        yield with_list(call, which, None)
+    if call.output_bytes is not None:
+        for length in (*lengths_around(call.output_bytes), None):
+            yield call._replace(output_bytes=length)
+
+
 def lengths():
     G, C = 2, 3
     unit = [simple_unit(G, C), simple_schedule(G, C), block_call((50_000, 40_000), (1, 2, 3_000))]
     for call in (unit[0], unit[1], unit[2], close_call(G, C)):
-        calls = list(unit)
-        for which, data in enumerate(call.lists):
-            for length in lengths_around(len(data)):
-                lists = list(call.lists)
-                lists[which] = resized(data, length)
-                calls.append(call._replace(lists=tuple(lists)))
-            lists = list(call.lists)
-            lists[which] = None
-            calls.append(call._replace(lists=tuple(lists)))
-        if call.output_bytes is not None:
-            calls += [call._replace(output_bytes=length)
-                      for length in lengths_around(call.output_bytes)]
-            calls.append(call._replace(output_bytes=None))
+        calls = [*unit, *other_lengths(call)]
         calls += [call._replace(record_bytes=length) for length in lengths_around(RECORD_BYTES)]
         calls.append(call._replace(record_bytes=None))
         calls.append(call._replace(
@@ -314,23 +320,26 @@ def lengths():
         close_call(3, 2)]
 
 
+def at_every_length(call, most, more):
+    """Each list and the output at every length from 0 to 9 more than this largest call has."""
+    for which, data in enumerate(call.lists):
+        yield f"every length of list {which + 1} of {call.name}", [
+            with_list(call, which, resized(data, length, more))
+            for length in range(len(most.lists[which]) + 10)]
+    if call.output_bytes is not None:
+        yield f"every length of the output of {call.name}", [
+            call._replace(output_bytes=length) for length in range(most.output_bytes + 10)]
+
+
 def every_length(G, C, more):
-    """Each list and the record at every length from 0 to 9 more than any agreement has."""
+    """Likewise for each call of an agreement, and the record."""
     unit = [simple_unit(G, C), simple_schedule(G, C),
             block_call([50_000 + g for g in range(G)], [3_000 * c for c in range(C)])]
     longest = [simple_unit(8, 16), simple_schedule(8, 16), block_call((1,) * 8, (2,) * 16),
                close_call(8, 16)]
     for call, most in zip(unit + [close_call(G, C)], longest):
-        for which, data in enumerate(call.lists):
-            calls = list(unit)
-            for length in range(len(most.lists[which]) + 10):
-                lists = list(call.lists)
-                lists[which] = resized(data, length, more)
-                calls.append(call._replace(lists=tuple(lists)))
-            yield f"{G} x {C}, every length of list {which + 1} of {call.name}", calls
-        if call.output_bytes is not None:
-            yield f"{G} x {C}, every length of the output of {call.name}", unit + [
-                call._replace(output_bytes=length) for length in range(most.output_bytes + 10)]
+        for what, calls in at_every_length(call, most, more):
+            yield f"{G} x {C}, {what}", unit + calls
         yield f"{G} x {C}, every length of the record of {call.name}", unit + [
             call._replace(record_bytes=length) for length in range(RECORD_BYTES + 10)]
 
@@ -630,6 +639,166 @@ def smaller_things():
         block_call((8_000, 3_000), (0, 0)), block_call((0, 0), (1_000, 7_000)), close_call(2, 2)]
 
 
+# ---- A day of a main and a check meter ----
+
+# No two blocks alike. Block k, from 0, is k + 1 Wh apart, in turn the one and the other larger, so
+# that each tolerance up to 96 gives another count.
+MAIN_DAY = tuple(40_000 + 1_009 * block for block in range(BLOCKS))
+CHECK_DAY = tuple(reading + (block + 1) * (-1) ** block for block, reading in enumerate(MAIN_DAY))
+SOME_APART = 40
+# As long as the memory that is lent, at any shift; as the pattern in an output.
+LONGEST_LIST = MOST_LENT - 2 * len(GUARD) - 8
+LONGEST_OUTPUT = len(PATTERN)
+
+
+def with_reading(day, blocks, reading):
+    """The day with this reading in these blocks."""
+    return [reading if block in blocks else own for block, own in enumerate(day)]
+
+
+def day_missing(in_main=(), in_check=()):
+    """The day above without the readings of these blocks."""
+    return day_call(with_reading(MAIN_DAY, in_main, MISSING),
+                    with_reading(CHECK_DAY, in_check, MISSING), SOME_APART)
+
+
+def missing_readings():
+    every = range(BLOCKS)
+    yield "day, none missing", [day_missing()]
+    yield "day, all missing", [day_missing(every, ()), day_missing((), every),
+                               day_missing(every, every)]
+    yield "day, one missing in the main day", [day_missing((block,), ()) for block in every]
+    yield "day, one missing in the check day", [day_missing((), (block,)) for block in every]
+    yield "day, the same block missing in both", [
+        day_missing((block,), (block,)) for block in every]
+    for what, blocks in (("from a block on", lambda block: every[block:]),
+                         ("up to a block", lambda block: every[:block])):
+        yield f"day, missing {what}", [
+            call for block in every for call in (
+                day_missing(blocks(block), ()), day_missing((), blocks(block)))]
+    yield "day, the halves missing", [
+        day_missing(every[:48], every[48:]), day_missing(every[48:], every[:48]),
+        day_missing(every[0::2], every[1::2]), day_missing(every[0::2], ()),
+        day_missing((), every[0::2])]
+
+
+def missing_in_unequal_blocks():
+    """All 96 x 95."""
+    for block in range(BLOCKS):
+        yield f"day, block {block} missing in the main day, another in the check day", [
+            day_missing((block,), (other,)) for other in range(BLOCKS) if other != block]
+
+
+# Limits of a reading and of a number of 1, 2, 4 bytes, with and without a sign.
+ODD_READINGS = (0, 1, 255, 256, 65_535, 65_536, READING_LIMIT, READING_LIMIT + 1, 2**31 - 1, 2**31,
+                MISSING - 1)
+
+
+def odd_readings():
+    for lower, higher in combinations(ODD_READINGS, 2):
+        apart = higher - lower
+        yield f"day, {lower} beside {higher}", [
+            day_call([main] * BLOCKS, [check] * BLOCKS, tolerance)
+            for main, check in ((lower, higher), (higher, lower))
+            for tolerance in sorted({0, 1, apart - 1, apart, apart + 1, MISSING - 1, MISSING})]
+
+
+def readings_taken_for_missing():
+    """None of them is: if one were, the first of its four calls would be refused with 17."""
+    one_byte_less = {MISSING - change * 256**byte for byte in range(4) for change in (1, 128, 255)}
+    incomplete = with_reading(CHECK_DAY, (5,), MISSING)
+    for reading in sorted(one_byte_less.union(ODD_READINGS)):
+        complete = with_reading(MAIN_DAY, (7,), reading)
+        yield f"day, {reading} is a reading", [
+            day_call(complete, incomplete, 0), day_call(complete, CHECK_DAY, 0),
+            day_call(incomplete, complete, 0), day_call(CHECK_DAY, complete, 0)]
+
+
+def beside_a_missing_one():
+    """As a number the missing one would be further away than the first two tolerances."""
+    for reading in ODD_READINGS:
+        calls, far = [], MISSING - reading
+        for tolerance, block in product((0, far - 1, far), (0, 50, BLOCKS - 1)):
+            present, absent = (with_reading(MAIN_DAY, (block,), one) for one in (reading, MISSING))
+            calls += [day_call(absent, present, tolerance), day_call(present, absent, tolerance)]
+        yield f"day, {reading} beside a missing one", calls
+
+
+def blocks_apart():
+    yield "day, each tolerance", [
+        day_call(*days, tolerance) for tolerance in range(BLOCKS + 2)
+        for days in ((MAIN_DAY, CHECK_DAY), (CHECK_DAY, MAIN_DAY))]
+    for what, change in (("larger", SOME_APART + 1), ("smaller", -SOME_APART - 1)):
+        moved = [reading + change for reading in MAIN_DAY]
+        yield f"day, check reading {what}, one block apart", [
+            day_call(MAIN_DAY, with_reading(MAIN_DAY, (block,), moved[block]), SOME_APART)
+            for block in range(BLOCKS)]
+        yield f"day, check reading {what}, all but one apart", [
+            day_call(MAIN_DAY, with_reading(moved, (block,), MAIN_DAY[block]), SOME_APART)
+            for block in range(BLOCKS)]
+        yield f"day, check reading {what}, all apart", [
+            day_call(main, check, tolerance)
+            for main in (MAIN_DAY, with_reading(MAIN_DAY, (0, 9), MISSING))
+            for check in (moved, with_reading(moved, (0, BLOCKS - 1), MISSING))
+            for tolerance in (0, SOME_APART, SOME_APART + 1)]
+
+
+def days_not_of_96():
+    """With and without missing readings: 2 comes before 17."""
+    for main_count, check_count in product((0, BLOCKS - 1, BLOCKS, BLOCKS + 1), repeat=2):
+        yield f"day of {main_count} and {check_count} readings", [
+            day_call(with_reading((*MAIN_DAY, 7), main_missing, MISSING)[:main_count],
+                     with_reading((*CHECK_DAY, 7), check_missing, MISSING)[:check_count], 0)
+            for main_missing, check_missing in product(
+                ((), (0,), (BLOCKS - 2,), (BLOCKS - 1,), (BLOCKS,)), repeat=2)]
+
+
+def day_lengths():
+    """Of a day that is accepted and of one that is refused with 17."""
+    complete, refused = day_missing(), day_missing((0,), (BLOCKS - 1,))
+    yield "lengths of day", [
+        *other_lengths(complete), *other_lengths(refused),
+        *(call._replace(lists=(None, None), output_bytes=output_bytes)
+          for call in (complete, refused) for output_bytes in (None, complete.output_bytes))]
+    yield "days that are right together only", [
+        call._replace(lists=(resized(call.lists[0], length, b"\1"),
+                             resized(call.lists[1], 8 * BLOCKS - length, b"\1")))
+        for call in (complete, refused)
+        for length in (0, 1, 8, 380, 383, 384, 385, 388, 767, 768)]
+    long = (4_000, 4_096, LONGEST_LIST)
+    yield "day, long lists", [
+        call._replace(lists=(resized(call.lists[0], main_length, more),
+                             resized(call.lists[1], check_length, more)))
+        for call in (complete, refused) for more in (b"\0", b"\xff")
+        for main_length, check_length in product((4 * BLOCKS, *long), repeat=2)]
+    yield "day, long outputs", [call._replace(output_bytes=length) for call in (complete, refused)
+                                for length in (4_000, 4_096, LONGEST_OUTPUT)]
+    for what, call, more in (("complete", complete, b"\0"), ("incomplete", refused, b"\xff")):
+        for length, calls in at_every_length(call, call, more):
+            yield f"{what}, {length}", calls
+
+
+def days_between():
+    """A day leaves the record that stands."""
+    days = (day_missing(), day_missing((3,), ()), day_missing((3,), (4,)), day_missing((), (4,)),
+            with_list(day_missing(), 0, b""))
+    yield "days between the calls of a unit", [
+        step for at, call in enumerate(three_by_two()) for step in (call, days[at % len(days)])]
+
+
+def days():
+    for what, (call, _) in DAYS.items():
+        yield f"F-1, {what}", [call]
+    yield from missing_readings()
+    yield from odd_readings()
+    yield from readings_taken_for_missing()
+    yield from beside_a_missing_one()
+    yield from blocks_apart()
+    yield from days_not_of_96()
+    yield from day_lengths()
+    yield from days_between()
+
+
 def fixed_cases():
     """All fixed cases: (name, list of calls)."""
     for name, calls in CASES.items():
@@ -646,9 +815,11 @@ def fixed_cases():
     yield from unsound_records()
     yield from unreached_records()
     yield from smaller_things()
+    yield from days()
     yield from DOCUMENT_CASES.items()
     yield from full_months()
     yield from each_word_damaged()
     # Last, since they are many and a wrong rule shows before.
+    yield from missing_in_unequal_blocks()
     yield from every_length(2, 3, b"\0")
     yield from every_length(8, 16, b"\xff")

@@ -1,4 +1,4 @@
-"""The library under test: the four C calls over guarded memory, and the run of a list of calls on
+"""The library under test: the five C calls over guarded memory, and the run of a list of calls on
 the library and the second engine side by side."""
 
 import ctypes
@@ -11,13 +11,13 @@ from second.engine import (CONSUMER_PLACES, CONSUMER_TERMS, GENERATOR_PLACES, GE
 
 
 class Library:
-    """The four C calls of a shared object, and the memory that is lent to them."""
+    """The five C calls of a shared object, and the memory that is lent to them."""
 
     def __init__(self, path):
         loaded = ctypes.CDLL(path)
-        self.calls = {name: c_call(loaded, "wheeling_" + name, numbers, lists)
-                      for name, numbers, lists in (("open", 5, 3), ("schedule", 0, 3),
-                                                   ("block", 0, 4), ("close", 0, 2))}
+        self.calls = {name: c_call(loaded, "wheeling_" + name, *counts)
+                      for name, *counts in (("open", 5, 3), ("schedule", 0, 3), ("block", 0, 4),
+                                            ("close", 0, 2), ("day", 0, 2, 1, 1))}
         self.lent = {name: Lent() for name in ("record", "output", "first list", "second list")}
 
 
@@ -53,7 +53,9 @@ class LibraryUnit:
             used.append("output")
             data = None if call.output_bytes is None else PATTERN[:call.output_bytes]
             output_argument = (self.lent["output"].lend(data, shift), len(data or b""))
-            number = function(*record_argument, *lists, *output_argument)
+            # The record is lent for a day too, which is not told of it and must leave it.
+            first = (*lists, *call.numbers) if call.name == "day" else (*record_argument, *lists)
+            number = function(*first, *output_argument)
             output = self.lent["output"].now()
 
         touched = written_around({name: self.lent[name] for name in used})
@@ -88,7 +90,7 @@ def differing_words(what, names, library, second):
         yield f"{what}, {name}: library {left}, second engine {right}"
 
 
-def differences(library, second):
+def differences(library, second, output_names=()):
     """What differs between two outcomes, in words."""
     found = []
     if library.number != second.number:
@@ -96,7 +98,7 @@ def differences(library, second):
     if library.record != second.record:
         found += differing_words("record", word_names(), library.record, second.record)
     if library.output != second.output:
-        found += differing_words("output", [], library.output, second.output)
+        found += differing_words("output", output_names, library.output, second.output)
     return found
 
 

@@ -1,16 +1,17 @@
-"""Random lists of calls and random months.
+"""Random lists of calls, random months and random days of two meters.
 
-Both are Python generators: they yield a call and are sent the second engine's outcome, which tells
+All are Python generators: they yield a call and are sent the second engine's outcome, which tells
 them what stands in the record. The same seed gives the same calls for every library, because only
 the second engine's outcomes decide.
 """
 
 import random
 
-from second.calls import (block_call, close_call, new_record_call, open_call, packed,
+from second.calls import (block_call, close_call, day_call, new_record_call, open_call, packed,
                           schedule_call, write_call)
-from second.engine import (CONSUMER_TERMS, GENERATOR_TERMS, RECORD_BYTES, RECORD_FORM,
-                           RECORD_WORDS, Engine, record_from_bytes, record_to_bytes)
+from second.engine import (CHECK_METER, CONSUMER_TERMS, GENERATOR_TERMS, MAIN_METER,
+                           RECORD_BYTES, RECORD_FORM, RECORD_WORDS, Engine, record_from_bytes,
+                           record_to_bytes)
 
 READING_LIMIT = Engine.HIGHEST_READING
 WIDEST_INPUT = 2**32 - 1
@@ -199,7 +200,7 @@ def with_fault(rng, call):
     """The call with one fault or a few; now and then the fault is none."""
     for _ in range(rng.choice((1, 1, 1, 2, 3))):
         kind = rng.random()
-        if kind < 0.07:
+        if kind < 0.07 and call.name != "day":
             length = rng.choice((None, 0, other_length(rng, RECORD_BYTES, 8)))
             call = call._replace(record_bytes=length)
         elif kind < 0.17 and call.output_bytes:
@@ -213,7 +214,7 @@ def with_fault(rng, call):
             call = call._replace(lists=call.lists[:which] + (data,) + call.lists[which + 1:])
         elif kind < 0.45 and call.numbers:
             numbers = list(call.numbers)
-            which = rng.randrange(5)
+            which = rng.randrange(len(numbers))
             numbers[which] = odd_value(rng, numbers[which], WIDEST_INPUT)
             call = call._replace(numbers=tuple(numbers))
         elif call.lists:
@@ -304,12 +305,51 @@ def random_month(rng):
         record = (yield close_for(unit)).record
 
 
+def tolerance_for(rng):
+    return rng.choice((0, 1, rng.randint(0, 1_000), magnitude(rng, READING_LIMIT),
+                       magnitude(rng, WIDEST_INPUT), rng.randint(WIDEST_INPUT - 2, WIDEST_INPUT)))
+
+
+def two_readings(rng, tolerance):
+    """Of one block, often as far apart as the tolerance or just beside it."""
+    reading = rng.choice((magnitude(rng, READING_LIMIT), rng.randint(0, 60_000),
+                          magnitude(rng, Engine.MISSING - 1)))
+    apart = rng.choice((0, tolerance, tolerance + 1, max(tolerance, 1) - 1, rng.randint(0, 60_000),
+                        magnitude(rng, Engine.MISSING - 1)))
+    pair = [reading, min(reading + apart, Engine.MISSING - 1)]
+    rng.shuffle(pair)
+    return pair
+
+
+def with_missing(rng, day):
+    """None, one or many of the readings missing; of one, the first and the last more often."""
+    kind = rng.random()
+    if kind < 0.5 or not day:
+        return day
+    blocks = range(len(day))
+    if kind < 0.75:
+        without = {rng.choice((blocks[0], blocks[-1], rng.choice(blocks)))}
+    else:
+        without = set(rng.sample(blocks, rng.choice((2, rng.randint(0, len(day))))))
+    return [Engine.MISSING if block in without else day[block] for block in blocks]
+
+
+def random_day(rng):
+    """One day of a main and a check meter, now and then with a fault."""
+    tolerance = tolerance_for(rng)
+    count = Engine.DAY_BLOCKS if rng.random() < 0.95 else rng.choice((0, 95, 97))
+    blocks = [two_readings(rng, tolerance) for _ in range(count)]
+    call = day_call(*(with_missing(rng, [readings[meter] for readings in blocks])
+                      for meter in (MAIN_METER, CHECK_METER)), tolerance)
+    yield with_fault(rng, call) if rng.random() < 0.2 else call
+
+
 def source(seed, kind, index):
     """The random numbers of one list: each list can be made again by itself."""
     return random.Random(f"{seed} {kind} {index}")
 
 
-KINDS = {"list": random_list, "month": random_month}
+KINDS = {"list": random_list, "month": random_month, "day": random_day}
 
 
 def calls_of(seed, kind, index):

@@ -2,9 +2,9 @@
 """Shows that the test program's cases tell wrong rules from right ones.
 
 Each wrong rule is put into the second engine in the place of one right rule. The wrong engine and
-the right one are fed the fixed cases and random lists of compare.py; a difference must show. For
+the right one are fed the fixed cases and random cases of compare.py; a difference must show. For
 each wrong rule, the calls made up to the first difference are printed, once for the fixed cases and
-once for the random lists. Ends with 1 if a wrong rule survives both.
+once for the random ones. Ends with 1 if a wrong rule survives both.
 """
 
 import argparse
@@ -18,8 +18,9 @@ sys.path.insert(0, str(Path(__file__).resolve().parent.parent))
 from fixed_cases import fed, fixed_cases  # noqa: E402
 from random_calls import calls_of  # noqa: E402
 from second.calls import SecondUnit  # noqa: E402
-from second.engine import (CONSUMER_TERMS, GENERATOR_TERMS, MINI_HYDEL,  # noqa: E402
-                           WH_PER_KW_IN_A_BLOCK, WHOLE, WIND, Engine, rounded_up, taken_in_order)
+from second.engine import (ACCEPTED, CHECK_METER, CONSUMER_TERMS, GENERATOR_TERMS,  # noqa: E402
+                           MAIN_METER, MINI_HYDEL, WH_PER_KW_IN_A_BLOCK, WHOLE, WIND, Engine,
+                           inputs_from_bytes, outputs_to_bytes, rounded_up, taken_in_order)
 
 WRONG_RULES = {}
 
@@ -315,6 +316,204 @@ for name_of_clause in Engine.CLAUSES_OF_SOUND:
     WRONG_RULES["sound without " + name_of_clause] = without_clause(name_of_clause)
 
 
+# ---- A day of two meters ----
+
+@wrong("day: check day used wherever it is complete")
+class CheckDayFirst(Engine):
+    def meter_used(self, main_day, check_day):
+        return MAIN_METER if self.incomplete(check_day) else CHECK_METER
+
+
+@wrong("day: main day used always")
+class MainDayAlways(Engine):
+    def meter_used(self, main_day, check_day):
+        return MAIN_METER
+
+
+@wrong("day: main and check list swapped")
+class DaysSwapped(Engine):
+    def day(self, main_list, check_list, tolerance, output):
+        return super().day(check_list, main_list, tolerance, output)
+
+
+@wrong("day: 4,294,967,294 taken as missing")
+class HighestReadingMissing(Engine):
+    def missing(self, reading):
+        return reading >= self.MISSING - 1
+
+
+@wrong("day: readings over 200,000,000 taken as missing")
+class HighReadingsMissing(Engine):
+    def missing(self, reading):
+        return reading > self.HIGHEST_READING
+
+
+@wrong("day: 0 taken as missing")
+class ZeroMissing(Engine):
+    def missing(self, reading):
+        return reading in (0, self.MISSING)
+
+
+@wrong("day: incomplete only where all readings are missing")
+class IncompleteIfEmpty(Engine):
+    def incomplete(self, day):
+        return all(self.missing(reading) for reading in day)
+
+
+@wrong("day: a missing reading in the last block passed over")
+class LastBlockPresent(Engine):
+    def incomplete(self, day):
+        return super().incomplete(day[:-1])
+
+
+@wrong("day: a missing reading in the first block passed over")
+class FirstBlockPresent(Engine):
+    def incomplete(self, day):
+        return super().incomplete(day[1:])
+
+
+@wrong("day: 17 where the main day misses one")
+class MainIncompleteRefused(Engine):
+    def both_incomplete(self, main_day, check_day):
+        return self.incomplete(main_day)
+
+
+@wrong("day: 17 where either day misses one")
+class EitherIncompleteRefused(Engine):
+    def both_incomplete(self, main_day, check_day):
+        return self.incomplete(main_day) or self.incomplete(check_day)
+
+
+@wrong("day: 17 only where a block is missing in both")
+class SameBlockRefused(Engine):
+    def both_incomplete(self, main_day, check_day):
+        return any(self.missing(main) and self.missing(check)
+                   for main, check in zip(main_day, check_day))
+
+
+@wrong("day: merged, the main day used where no block is missing in both")
+class DaysMerged(SameBlockRefused, MainDayAlways):
+    pass
+
+
+@wrong("day: 17 before 2")
+class BothIncompleteFirst(Engine):
+    def day(self, main_list, check_list, tolerance, output):
+        whole = [inputs_from_bytes(data[:len(data) // 4 * 4]) for data in (main_list, check_list)]
+        if self.both_incomplete(*whole):
+            return 17, output
+        return super().day(main_list, check_list, tolerance, output)
+
+
+@wrong("day: a refusal writes meter 0 and count 0")
+class RefusalWritten(Engine):
+    def day(self, main_list, check_list, tolerance, output):
+        number, after = super().day(main_list, check_list, tolerance, output)
+        if number != ACCEPTED and len(output) == 8 * self.DAY_OUTPUT_LENGTH:
+            after = outputs_to_bytes(self.day_output(MAIN_METER, 0))
+        return number, after
+
+
+def day_accepted(blocks):
+    """Both days may have so many blocks instead."""
+    def day_lists_allowed(self, main_list, check_list):
+        return (len(main_list) == len(check_list) == 4 * blocks
+                or Engine.day_lists_allowed(self, main_list, check_list))
+    return type(f"DayOf{blocks}", (Engine,), {"day_lists_allowed": day_lists_allowed})
+
+
+for count_of_blocks in (0, 95, 97):
+    WRONG_RULES[f"day: a day of {count_of_blocks} accepted"] = day_accepted(count_of_blocks)
+
+
+@wrong("day: the check day's length not looked at")
+class CheckLengthFree(Engine):
+    def day_lists_allowed(self, main_list, check_list):
+        return len(main_list) == 4 * self.DAY_BLOCKS and len(check_list) % 4 == 0
+
+
+@wrong("day: apart by the tolerance counted")
+class ToleranceCounted(Engine):
+    def further_apart(self, main, check, tolerance):
+        return abs(main - check) >= tolerance
+
+
+@wrong("day: tolerance 0 taken as none given")
+class NoTolerance(Engine):
+    def further_apart(self, main, check, tolerance):
+        return tolerance != 0 and super().further_apart(main, check, tolerance)
+
+
+@wrong("day: only a larger main reading counted")
+class MainLargerOnly(Engine):
+    def further_apart(self, main, check, tolerance):
+        return main - check > tolerance
+
+
+@wrong("day: only a larger check reading counted")
+class CheckLargerOnly(Engine):
+    def further_apart(self, main, check, tolerance):
+        return check - main > tolerance
+
+
+@wrong("day: difference taken modulo 2^32")
+class DifferenceModulo(Engine):
+    def further_apart(self, main, check, tolerance):
+        return (main - check) % 2**32 > tolerance
+
+
+@wrong("day: difference taken in 32 bits with a sign")
+class DifferenceSigned(Engine):
+    def further_apart(self, main, check, tolerance):
+        return abs((main - check + 2**31) % 2**32 - 2**31) > tolerance
+
+
+@wrong("day: a missing main reading counted as apart")
+class MissingMainApart(Engine):
+    def counts_as_apart(self, main, check, tolerance):
+        return not self.missing(check) and (self.missing(main)
+                                            or self.further_apart(main, check, tolerance))
+
+
+@wrong("day: a missing check reading counted as apart")
+class MissingCheckApart(Engine):
+    def counts_as_apart(self, main, check, tolerance):
+        return not self.missing(main) and (self.missing(check)
+                                           or self.further_apart(main, check, tolerance))
+
+
+@wrong("day: blocks counted up to the first missing one")
+class CountedToMissing(Engine):
+    def blocks_apart(self, main_day, check_day, tolerance):
+        stop = next((block for block, readings in enumerate(zip(main_day, check_day))
+                     if self.MISSING in readings), len(main_day))
+        return super().blocks_apart(main_day[:stop], check_day[:stop], tolerance)
+
+
+@wrong("day: count 0 where the check day is used")
+class MainDayCountedOnly(Engine):
+    def day_output(self, meter, apart):
+        return super().day_output(meter, apart if meter == MAIN_METER else 0)
+
+
+@wrong("day: last block not counted")
+class LastBlockNotCounted(Engine):
+    def blocks_apart(self, main_day, check_day, tolerance):
+        return super().blocks_apart(main_day[:-1], check_day[:-1], tolerance)
+
+
+@wrong("day: first block not counted")
+class FirstBlockNotCounted(Engine):
+    def blocks_apart(self, main_day, check_day, tolerance):
+        return super().blocks_apart(main_day[1:], check_day[1:], tolerance)
+
+
+@wrong("day: meter and count swapped in the output")
+class DayOutputSwapped(Engine):
+    def day_output(self, meter, apart):
+        return [apart, meter]
+
+
 # ---- The comparison ----
 
 def recorded(calls):
@@ -349,13 +548,15 @@ def main():
     parser = argparse.ArgumentParser(description=__doc__.splitlines()[0])
     parser.add_argument("--lists", type=int, default=300)
     parser.add_argument("--months", type=int, default=10)
+    parser.add_argument("--days", type=int, default=300)
     parser.add_argument("--seed", type=int, default=1)
     arguments = parser.parse_args()
     begun = time.monotonic()
     fixed = [recorded(fed(calls)) for _, calls in fixed_cases()]
+    # Days first, since they are short and a wrong rule of a day shows in no other.
+    counts = (("day", arguments.days), ("list", arguments.lists), ("month", arguments.months))
     drawn_by_lot = [recorded(calls_of(arguments.seed, kind, index))
-                    for kind, count in (("list", arguments.lists), ("month", arguments.months))
-                    for index in range(count)]
+                    for kind, count in counts for index in range(count)]
 
     # The right engine must not differ from itself: otherwise no count below would mean anything.
     for lists in (fixed, drawn_by_lot):
@@ -363,7 +564,7 @@ def main():
             print("the right engine differs from itself")
             return 1
 
-    print("calls until a difference: fixed cases, random lists")
+    print("calls until a difference: fixed cases, random cases")
     survivors = []
     for what, engine in WRONG_RULES.items():
         counts = [calls_until_difference(engine(), lists) for lists in (fixed, drawn_by_lot)]

@@ -1,5 +1,5 @@
 #!/usr/bin/env python3
-"""Deliberate faults in the compiled engine: the test program must find each.
+"""Deliberate faults in the compiled engine: a test program must find each.
 
     faults.py [NAME...]             (all faults, or those whose names hold one of the words)
     faults.py --table [NAME...]     (prints the table of docs/EVIDENCE.md, and on standard error
@@ -7,10 +7,11 @@
 
 Each fault is one small change in a copy of the crates' source. The copy is compiled without its
 proofs, which refuse it (unproved.py), and the test program runs on it as in the gate: compare.py on
-the C calls, reader.py on the reader of the readings table. Faults are the edits of
-crates/*/must-fail that change code of one of the two, and those listed below. For each fault it is
-printed where the first difference showed. Ends with 1 if the unchanged copy differs, if a fault
-survives, if a fault that cannot show does show, or if the source does not hold what one changes.
+the C calls, handed_back.py on the library's own call for a day, reader.py on the reader of the
+readings table. Faults are the edits of crates/*/must-fail that change code of one of the three, and
+those listed below. For each fault it is printed where the first difference showed. Ends with 1 if
+the unchanged copy differs, if a fault survives, if a fault that cannot show does show, or if the
+source does not hold what one changes.
 """
 
 import argparse
@@ -43,8 +44,11 @@ class Tested(NamedTuple):
 
 
 CALLS = Tested("the C calls", TESTS / "calls" / "compare.py", LIBRARY, None)
+HANDED_BACK = Tested("the day handed back", TESTS / "calls" / "handed_back.py", "check_meter",
+                     TESTS / "calls" / "handed_back.rt.in")
 READER = Tested("the reader", TESTS / "texts" / "reader.py", "table",
                 TESTS / "texts" / "reader.rt.in")
+ALL_TESTED = (CALLS, HANDED_BACK, READER)
 
 # By part and name: old text and new text, at times several of both. An old text stands once in all
 # the source under test, so that it also says which file is changed. `*::` in it stands for the path
@@ -245,11 +249,12 @@ HIDDEN = {
         "a closing credits the figures of a sound record, which are within the bank's limit",
 }
 
-# The line of compare.py, and that of reader.py, which knows one call only.
+# The line of compare.py, and that of the other two, which know one call only.
 FOUND = re.compile(r"^DIFFERENCE in (.*?)(?:, call \d+ of it \((\w+)\))?, (\d+) calls after "
                    "the start", re.MULTILINE)
 # How the names of what is not a fixed case begin.
-STAGES = {"lists": "random list", "months": "random month", "texts": "random text"}
+STAGES = {"lists": "random list", "months": "random month", "days": "random day",
+          "texts": "random text"}
 
 
 class NotInSource(Exception):
@@ -284,7 +289,7 @@ class Tried(NamedTuple):
 
 @cache
 def crates_under_test():
-    return sorted({*CALLS.crates(), *READER.crates()})
+    return sorted({crate for tested in ALL_TESTED for crate in tested.crates()})
 
 
 @cache
@@ -352,6 +357,9 @@ def listed_faults():
 
 def tested_in(files):
     crates = {file.split("/")[0] for file in files}
+    # The C calls are compiled from this crate too, but do not call all of it.
+    if crates == {HANDED_BACK.library}:
+        return HANDED_BACK
     return CALLS if crates <= set(CALLS.crates()) else READER
 
 
@@ -432,7 +440,7 @@ def looked_up(faults):
 
 def try_unchanged(faults, say):
     """A copy without a fault that differs is wrong: no difference below would say anything."""
-    for tested in (CALLS, READER):
+    for tested in ALL_TESTED:
         if any(tested_in(files) == tested for _, files in faults):
             result = tried(tested, {})
             say(f"{tested.what}, unchanged: {result.line}")

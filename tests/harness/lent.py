@@ -2,6 +2,7 @@
 
 import ctypes
 import mmap
+from itertools import cycle
 
 GUARD = bytes((0x5B + 29 * k) % 256 for k in range(64))
 MOST_LENT = 64 * 1024  # a multiple of every usual page size
@@ -56,10 +57,16 @@ def written_around(lent):
             if not memory.guards_whole()]
 
 
-def c_call(loaded, name, numbers, lists):
-    """The C function of a loaded library that takes numbers, then lists as pointer and length."""
+NUMBER = (ctypes.c_uint32,)
+LIST = (ctypes.c_void_p, ctypes.c_size_t)  # pointer and length
+
+
+def c_call(loaded, name, *counts):
+    """The C function of a loaded library that takes so many numbers, then so many lists, and so on
+    in turn."""
     function = getattr(loaded, name)
-    function.argtypes = (ctypes.c_uint32,) * numbers + (ctypes.c_void_p, ctypes.c_size_t) * lists
+    function.argtypes = [part for kind, count in zip(cycle((NUMBER, LIST)), counts)
+                         for part in kind * count]
     function.restype = ctypes.c_uint32
     return function
 

@@ -1,5 +1,5 @@
-"""A test program that runs compiled code and a second implementation side by side: what compare.py
-and reader.py share.
+"""A test program that runs compiled code and a second implementation side by side: what compare.py,
+handed_back.py and reader.py share.
 
 The compiled code runs in processes of its own, so that a fault or an endless call is reported as a
 difference is. The numbers that were given are counted. A case that differs is shrunk as long as a
@@ -13,6 +13,7 @@ import signal
 import time
 import traceback
 from collections import Counter
+from itertools import islice
 from typing import NamedTuple
 
 DEFAULT_SEED = 1
@@ -253,3 +254,62 @@ class SideBySide:
             self.shrink(shrinking)
             case, found = shrinking.case, shrinking.found
         self.print_case(case, found, shrunk=bool(found_alone))
+
+
+class OneCallEach(SideBySide):
+    """A test program each of whose cases is one call and has a name. A class made from this one has
+    fixed cases and random ones, in this order, and says also:
+
+    NUMBERS                  that must be given, that of an accepted call first: in the fixed cases,
+                             and in the random ones where there are as many as in the gate, or more
+    DEFAULT_RANDOM           random cases in the gate
+
+    second(case)             what the second implementation gives; has a `number`
+    differences(code, case, turn)
+                             all that differs, in words
+    to_text(case)            one line of JSON
+    from_text(line)          the case that it shows
+    """
+
+    def run_case(self, code, kind, case, place, seen):
+        place.calls += 1
+        seen[self.second(case).number] += 1
+        return self.differences(code, case, place.case)
+
+    def run_alone(self, code, case, place, turn):
+        return self.differences(code, case, turn)
+
+    def failed_case(self, kind, place):
+        case = next(islice(self.cases(kind), place.case, None))
+        return case.name, case
+
+    def print_case(self, case, found, shrunk):
+        print("shrunk; save this line to run it with --replay:" if shrunk
+              else "the call by itself gives no difference:")
+        print(self.to_text(case))
+        print_found(found)
+
+    def replay(self, lines):
+        differ = 0
+        for line in lines:
+            found, _ = self.trial(self.from_text(line))
+            differ += bool(found)
+            for difference in found:
+                print("  " + difference)
+        print(f"{len(lines)} calls, {differ} differ")
+        return 1 if differ else 0
+
+    def summary(self, stretches):
+        accepted, *refusals = self.NUMBERS
+        shown = "; ".join(
+            f"{seen.total():,} {kind} (accepted {seen[accepted]:,}, refused "
+            + ", ".join(f"{number}: {seen[number]:,}" for number in refusals) + ")"
+            for kind, _, seen, _ in stretches)
+        fixed = stretches[0]
+        unmet = [f"{number} in the {stretch.kind}" for stretch in stretches
+                 for number in stretch.unseen(self.NUMBERS)
+                 if stretch is fixed or stretch.cases >= self.DEFAULT_RANDOM]
+        print(f"{self.CODE}, seed {self.arguments.seed}: {shown}; "
+              + (f"NOT MET: {', '.join(unmet)}" if unmet else "no difference")
+              + f"; {sum(stretch.seconds for stretch in stretches):.1f} s")
+        return 1 if unmet else 0

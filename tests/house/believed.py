@@ -23,9 +23,9 @@ ASSURANCE = REPOSITORY / "docs" / "ASSURANCE.md"
 C_CALLS = "the C calls"
 CLAIMS = ["Claim", "MonthClaim", "ByteClaim"]
 STARTS = ["opening::opening", "schedule::schedule", "block::block", "closing::close", "soundness::is_sound_record", "Claim", "MonthClaim", C_CALLS,
-          "ByteClaim", "sharing::share", "table::read_table", "wheel::report"]
+          "ByteClaim", "sharing::share", "check_meter::day", "table::read_table", "wheel::report"]
 
-FUNCTION = re.compile(r'^(?:pub )?(extern "C" )?fn (\w+)\(.*?^\{', re.S | re.M)
+FUNCTION = re.compile(r'^(?:pub )?(extern "C" )?fn (\w+)(?:<[^>]*>)?\(.*?^\{', re.S | re.M)
 IMPORT = re.compile(r"^\s*(?:ghost )?use Rattle·(\w+?)(?:·specs)?\.specs\.((?:Laws\.)?\w+)(?:\.\{([^}]*)\})?", re.M)
 INDEXES = {"Lib", "Laws"}  # files that only name others
 

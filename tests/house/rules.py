@@ -115,7 +115,7 @@ def in_code(name):
         return False
     if path and not re.search(rf"\b(?:mod|impl) {path[0]}\b", source(crate)):
         return False
-    return bool(re.search(rf"\b(?:fn {last}\(|const {last}:)", source(crate)))
+    return bool(re.search(rf"\b(?:fn {last}[<(]|const {last}:)", source(crate)))
 
 
 @cache

@@ -2,14 +2,14 @@
 
 A list of calls works on one record. Between calls the host may write into it: `write` sets single
 words, `new_record` sets them all. These two are no calls of the engine; they make records that
-no list of calls leads to.
+no list of calls leads to. A `day` takes no record; in a list it leaves the one that stands.
 """
 
 import json
 import struct
 from typing import NamedTuple, Optional
 
-from second.engine import RECORD_BYTES, RECORD_FORM, RECORD_WORDS
+from second.engine import RECORD_BYTES, RECORD_FORM, RECORD_WORDS, Engine
 
 # What a lent output, a record of another length and a new unit's record hold before the call:
 # no two words alike and none 0, so that a wrong write of any value shows.
@@ -17,18 +17,21 @@ PATTERN = b"".join(struct.pack("<Q", 0xA5C3_0000_0000_0001 + 0x1_0101 * k) for k
 
 
 class Call(NamedTuple):
-    name: str  # open, schedule, block, close; write, new_record
-    numbers: tuple = ()  # open: G, C, rate, cycle, gone
+    name: str  # open, schedule, block, close; day; write, new_record
+    numbers: tuple = ()  # open: G, C, rate, cycle, gone; day: tolerance
     lists: tuple = ()  # the input lists in bytes; None is a null pointer with length 0
     record_bytes: Optional[int] = RECORD_BYTES  # length lent; None is a null pointer with length 0
-    output_bytes: Optional[int] = None  # block, close: likewise
+    output_bytes: Optional[int] = None  # block, close, day: likewise
     words: tuple = ()  # write, new_record: (place, value) pairs; new_record leaves the others 0
 
 
 HOST_WRITES = ("write", "new_record")
 INPUT_NAMES = {"open": ("generator_list", "pair_list"), "schedule": ("kw", "ranks"),
-               "block": ("entry", "exit"), "close": (), "write": (), "new_record": ()}
-NUMBER_NAMES = ("generators", "consumers", "rate", "cycle", "gone")
+               "block": ("entry", "exit"), "close": (), "day": ("main", "check"),
+               "write": (), "new_record": ()}
+NUMBER_NAMES = {"open": ("generators", "consumers", "rate", "cycle", "gone"),
+                "day": ("tolerance",)}
+WITH_OUTPUT = ("block", "close", "day")
 
 
 def packed(numbers):
@@ -53,6 +56,11 @@ def block_call(entry, exit, size=None):
 
 def close_call(generators, consumers):
     return Call("close", output_bytes=8 * (generators * consumers + 3 * generators + 2 * consumers))
+
+
+def day_call(main, check, tolerance):
+    return Call("day", (tolerance,), (packed(main), packed(check)),
+                output_bytes=8 * Engine.DAY_OUTPUT_LENGTH)
 
 
 def write_call(place, value):
@@ -105,6 +113,8 @@ class SecondUnit:
             number, record = self.engine.schedule(record, *inputs)
         elif call.name == "block":
             number, record, output = self.engine.block(record, *inputs, output)
+        elif call.name == "day":
+            number, output = self.engine.day(*inputs, *call.numbers, output)
         else:
             number, record, output = self.engine.close(record, output)
         if len(record) == RECORD_BYTES:
@@ -115,7 +125,7 @@ class SecondUnit:
 def to_text(call):
     """One line of JSON. Lists of whole numbers stand as numbers, others as hexadecimal bytes."""
     shown = {"call": call.name}
-    shown.update(zip(NUMBER_NAMES, call.numbers))
+    shown.update(zip(NUMBER_NAMES.get(call.name, ()), call.numbers))
     for name, data in zip(INPUT_NAMES[call.name], call.lists):
         if data is None:
             shown[name] = None
@@ -125,7 +135,7 @@ def to_text(call):
             shown[name] = data.hex()
     if call.record_bytes != RECORD_BYTES:
         shown["record_bytes"] = call.record_bytes
-    if call.name in ("block", "close"):
+    if call.name in WITH_OUTPUT:
         shown["output_bytes"] = call.output_bytes
     if call.name in HOST_WRITES:
         shown["words"] = call.words
@@ -143,6 +153,6 @@ def from_text(line):
         elif data is not None:
             data = packed(data)
         lists.append(data)
-    return Call(name, tuple(shown[key] for key in NUMBER_NAMES) if name == "open" else (),
+    return Call(name, tuple(shown[key] for key in NUMBER_NAMES.get(name, ())),
                 tuple(lists), shown.get("record_bytes", RECORD_BYTES), shown.get("output_bytes"),
                 tuple(tuple(pair) for pair in shown.get("words", ())))

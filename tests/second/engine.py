@@ -1,4 +1,5 @@
-"""The second engine: the energy account of one unit, from document 01 and docs/DECISIONS.md.
+"""The second engine: the energy account of one unit, from document 01, and a day of a main and a
+check meter, from F-1 of document 02; both as docs/DECISIONS.md reads them.
 
 It is the measure for the proved engine, so it is written to be checked by eye against the paper:
 rules and steps stand in the paper's order under the paper's words. Energy is in whole watt-hours,
@@ -11,8 +12,9 @@ Generators and consumers are counted from 0 here and from 1 in the paper.
     number, record = engine.schedule(record, kw, ranks)
     number, record, output = engine.block(record, entry, exit, output)
     number, record, output = engine.close(record, output)
+    number, output = engine.day(main_list, check_list, tolerance, output)
 
-These four take and give bytes. `record` and `output` go in as the caller lent them; on a refusal
+These five take and give bytes. `record` and `output` go in as the caller lent them; on a refusal
 they come back as they went in. Each rule is a method of its own, so that a test can put a wrong
 rule in the place of a single right one (wrong_rules.py).
 """
@@ -29,6 +31,8 @@ WH_PER_KW_IN_A_BLOCK = 250  # quarter-hour rule: clause 8.1 read with 2(g)
 WHOLE = 10_000  # hundredths of a percent in 100 percent
 
 SCHEDULED, WIND, MINI_HYDEL, SOLAR = 0, 1, 2, 3
+
+MAIN_METER, CHECK_METER = 0, 1
 
 # The terms of the two equations of demand 3, in the order of the record. The first one of each is
 # the sum of the others.
@@ -145,6 +149,9 @@ class Engine:
     HIGHEST_READING = 200_000_000
     MONTH_LIMIT = 3_360
     UNIT_LIMIT = 10_000_000
+    DAY_BLOCKS = 96
+    MISSING = 4_294_967_295
+    DAY_OUTPUT_LENGTH = 2
 
     # ---- The agreement: what opening tests (refusals 2 to 6) and soundness demands ----
 
@@ -487,7 +494,44 @@ class Engine:
         G, C = record.generators, record.consumers
         return G * C + 3 * G + 2 * C
 
-    # ---- The four calls on bytes: refusals are tested from the lowest number up ----
+    # ---- A day of a main and a check meter (document 02, F-1) ----
+    # "For a day of 96 readings from each, 4,294,967,295 marking a missing one, hand back the
+    # stretch of the main meter's readings if none is missing there, otherwise the check meter's.
+    # [...] Also return how many blocks have both readings present and further apart than a given
+    # tolerance in Wh. [...] (17, at least one reading missing in each of the two lists; tested
+    # after 2, which also covers a day not of 96.)" In C a meter's number stands for its stretch.
+
+    def missing(self, reading):
+        return reading == self.MISSING
+
+    def incomplete(self, day):
+        return any(self.missing(reading) for reading in day)
+
+    def both_incomplete(self, main_day, check_day):
+        """In whatever blocks: the two days are not merged."""
+        return self.incomplete(main_day) and self.incomplete(check_day)
+
+    def meter_used(self, main_day, check_day):
+        return CHECK_METER if self.incomplete(main_day) else MAIN_METER
+
+    def further_apart(self, main, check, tolerance):
+        return abs(main - check) > tolerance
+
+    def counts_as_apart(self, main, check, tolerance):
+        return (not self.missing(main) and not self.missing(check)
+                and self.further_apart(main, check, tolerance))
+
+    def blocks_apart(self, main_day, check_day, tolerance):
+        return sum(self.counts_as_apart(main, check, tolerance)
+                   for main, check in zip(main_day, check_day))
+
+    def day_output(self, meter, apart):
+        return [meter, apart]
+
+    def day_lists_allowed(self, main_list, check_list):
+        return len(main_list) == len(check_list) == 4 * self.DAY_BLOCKS
+
+    # ---- The five calls on bytes: refusals are tested from the lowest number up ----
 
     def sound_record(self, data):
         """The record that the bytes hold, or None (refusal 1)."""
@@ -560,3 +604,14 @@ class Engine:
             return 13, record, output
         numbers = self.closing_steps(unit)
         return ACCEPTED, record_to_bytes(unit), outputs_to_bytes(numbers)
+
+    def day(self, main_list, check_list, tolerance, output):
+        if (not self.day_lists_allowed(main_list, check_list)
+                or len(output) != 8 * self.DAY_OUTPUT_LENGTH):
+            return 2, output
+        main_day, check_day = inputs_from_bytes(main_list), inputs_from_bytes(check_list)
+        if self.both_incomplete(main_day, check_day):
+            return 17, output
+        numbers = self.day_output(self.meter_used(main_day, check_day),
+                                  self.blocks_apart(main_day, check_day, tolerance))
+        return ACCEPTED, outputs_to_bytes(numbers)

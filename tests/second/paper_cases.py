@@ -1,6 +1,6 @@
 #!/usr/bin/env python3
 """Document 01's own figures, checked on the second engine: P1 to P10, the printed table, and the
-example of each refusal number.
+example of each refusal number; and what document 02 says of a day of two meters (F-1).
 
 Run as a script: prints each figure that differs and how many were checked; ends with 1 on a
 difference. The lists of calls are also run against the library (compare.py).
@@ -11,10 +11,11 @@ import sys
 
 sys.path.insert(0, os.path.dirname(os.path.dirname(os.path.abspath(__file__))))
 
-from second.engine import (RECORD_BYTES, SCHEDULED, SOLAR, WIND, Engine,  # noqa: E402
-                           record_from_bytes, record_to_bytes)
-from second.calls import (SecondUnit, block_call, close_call, new_record_call,  # noqa: E402
-                          open_call, schedule_call)
+from second.engine import (ACCEPTED, CHECK_METER, MAIN_METER, RECORD_BYTES,  # noqa: E402
+                           SCHEDULED, SOLAR, WIND, Engine, outputs_to_bytes, record_from_bytes,
+                           record_to_bytes)
+from second.calls import (PATTERN, SecondUnit, block_call, close_call, day_call,  # noqa: E402
+                          new_record_call, open_call, schedule_call)
 from second import table  # noqa: E402
 
 AGREEMENT_A = open_call(1, 2, 1_000, 2, 0, (WIND, 1_000, 800), (1, 1, 1_000, 500))
@@ -57,7 +58,8 @@ def with_counts(calls, month_blocks, unit_blocks):
     return new_record_call(record_to_bytes(record))
 
 
-# For each refusal number of a C call: calls of which the last one gets it, by the table's example.
+# For each refusal number of document 01 that a C call gives: calls of which the last one gets it,
+# by the table's example.
 REFUSAL_EXAMPLES = {
     1: [new_record_call(bytes(RECORD_BYTES)), CLOSE_A],
     2: [open_call(9, 1, 0, 1, 0, (SCHEDULED, 0, 0) * 9, (0,) * 18)],
@@ -72,6 +74,46 @@ REFUSAL_EXAMPLES = {
     11: A + [with_counts(A, 3_359, 3_359), ZERO_BLOCK, ZERO_BLOCK],
     12: A + [with_counts(A, 1, 9_999_999), ZERO_BLOCK, ZERO_BLOCK],
     13: A + [ZERO_BLOCK, CLOSE_A, CLOSE_A],
+}
+
+
+def day_of(*readings):
+    """A day with these readings in its first blocks and 5,000 Wh in the others."""
+    return readings + (5_000,) * (96 - len(readings))
+
+
+MISSING = 4_294_967_295
+
+# What document 02 says of a day (F-1): the call, and its number with what the output holds after
+# it. A refused call leaves the output.
+DAYS = {
+    "none missing: the main meter's":
+        (day_call(day_of(7), day_of(8), 9), (ACCEPTED, MAIN_METER, 0)),
+    "one missing in the check day: the main meter's":
+        (day_call(day_of(7), day_of(8, MISSING), 9), (ACCEPTED, MAIN_METER, 0)),
+    "one missing in the main day: the check meter's":
+        (day_call(day_of(MISSING), day_of(8), 9), (ACCEPTED, CHECK_METER, 0)),
+    "all missing in the main day: the check meter's":
+        (day_call((MISSING,) * 96, day_of(8), 9), (ACCEPTED, CHECK_METER, 0)),
+    "one missing in each, in two blocks":
+        (day_call(day_of(MISSING), day_of(8, MISSING), 9), (17,)),
+    "one missing in each, in one block":
+        (day_call(day_of(MISSING), day_of(MISSING), 9), (17,)),
+    "4,294,967,294 is a reading":
+        (day_call(day_of(MISSING - 1), day_of(8, MISSING), 9), (ACCEPTED, MAIN_METER, 1)),
+    "apart by the tolerance":
+        (day_call(day_of(1_000, 2_000), day_of(1_050, 1_950), 50), (ACCEPTED, MAIN_METER, 0)),
+    "further apart than the tolerance":
+        (day_call(day_of(1_000, 2_000), day_of(1_050, 1_950), 49), (ACCEPTED, MAIN_METER, 2)),
+    "every block further apart":
+        (day_call((0,) * 96, (1,) * 96, 0), (ACCEPTED, MAIN_METER, 96)),
+    "one reading of a block missing: it does not count":
+        (day_call(day_of(MISSING, 2_000), day_of(1_000, 1_000), 0), (ACCEPTED, CHECK_METER, 1)),
+    "the other missing: it does not count":
+        (day_call(day_of(1_000, 2_000), day_of(MISSING, 1_000), 0), (ACCEPTED, MAIN_METER, 1)),
+    "a main day of 95": (day_call(day_of()[:95], day_of(), 0), (2,)),
+    "a check day of 97": (day_call(day_of(), day_of() + (5_000,), 0), (2,)),
+    "a day of 95, one missing in each": (day_call(day_of(MISSING)[:95], day_of(MISSING), 0), (2,)),
 }
 
 
@@ -175,6 +217,13 @@ def check_refusals(figures, engine):
                   table.read_table(1, 1, b"E1,R1\n1,2\n3,4\n", 2)[0], 16)
 
 
+def check_days(figures, engine):
+    for what, (call, (number, *numbers)) in DAYS.items():
+        outcome = SecondUnit(engine).do(call)
+        output = outputs_to_bytes(numbers) if number == ACCEPTED else PATTERN[:call.output_bytes]
+        figures.equal("F-1, " + what, (outcome.number, outcome.output), (number, output))
+
+
 def well_formed(names, length):
     """A table of agreement A of exactly so many bytes, in lines of 6 to 30 bytes."""
     text = names
@@ -245,6 +294,7 @@ def main():
     check_bench_cases(figures, engine)
     check_printed_table(figures)
     check_refusals(figures, engine)
+    check_days(figures, engine)
     check_reader_edges(figures)
     for line in figures.wrong:
         print(line)

@@ -23,7 +23,6 @@ import json
 import struct
 import sys
 from functools import lru_cache
-from itertools import islice
 from pathlib import Path
 from typing import NamedTuple
 
@@ -31,14 +30,12 @@ sys.path.insert(0, str(Path(__file__).resolve().parent.parent))
 
 from harness.lent import (WAYS_TO_LEND, Lent, c_call, differing, shift_in,  # noqa: E402
                           written_around)
-from harness.side_by_side import SideBySide, print_found  # noqa: E402
+from harness.side_by_side import OneCallEach  # noqa: E402
 from reader_texts import Case, fixed_cases, random_case  # noqa: E402
 from second.calls import packed  # noqa: E402
 from second.engine import ACCEPTED  # noqa: E402
 from second.table import read_table  # noqa: E402
 
-DEFAULT_TABLES = 20_000
-NUMBERS = (ACCEPTED, 2, 14, 15, 16)
 MOST_LENT = 1024 * 1024  # a multiple of every usual page size
 
 # What output and count hold before the call: no two places alike, and no small number.
@@ -121,15 +118,22 @@ def from_text(line):
                 shown["text"].encode("latin-1"), shown["room"])
 
 
-class CompareReader(SideBySide):
+class CompareReader(OneCallEach):
     CODE = "reader"
     NO_CODE = "no reader"
     KINDS = ("fixed cases", "random texts")
+    NUMBERS = (ACCEPTED, 2, 14, 15, 16)
+    DEFAULT_RANDOM = 20_000
     LONGEST_CASE_SECONDS = 30
     TURNS = WAYS_TO_LEND
 
+    second = staticmethod(second_read)
+    differences = staticmethod(differences)
+    to_text = staticmethod(to_text)
+    from_text = staticmethod(from_text)
+
     def add_arguments(self, parser):
-        parser.add_argument("--tables", type=int, default=DEFAULT_TABLES, help="random texts")
+        parser.add_argument("--tables", type=int, default=self.DEFAULT_RANDOM, help="random texts")
 
     def load(self):
         return Reader(self.path)
@@ -139,54 +143,12 @@ class CompareReader(SideBySide):
             return fixed_cases()
         return (random_case(self.arguments.seed, index) for index in range(self.arguments.tables))
 
-    def run_case(self, code, kind, case, place, seen):
-        place.calls += 1
-        seen[second_read(case).number] += 1
-        return differences(code, case, place.case)
-
-    def run_alone(self, code, case, place, turn):
-        return differences(code, case, turn)
-
-    def failed_case(self, kind, place):
-        case = next(islice(self.cases(kind), place.case, None))
-        return case.name, case
-
     def shrink(self, shrinking):
         """Less room and a shorter text, which is then built for no number."""
         shrinking.case = shrinking.case._replace(number=None)
         less_room(shrinking)
         shrinking.drop_pieces("text")
         less_room(shrinking)
-
-    def print_case(self, case, found, shrunk):
-        print("shrunk; save this line to run it with --replay:" if shrunk
-              else "the call by itself gives no difference:")
-        print(to_text(case))
-        print_found(found)
-
-    def replay(self, lines):
-        differ = 0
-        for line in lines:
-            found, _ = self.trial(from_text(line))
-            differ += bool(found)
-            for difference in found:
-                print("  " + difference)
-        print(f"{len(lines)} calls, {differ} differ")
-        return 1 if differ else 0
-
-    def summary(self, stretches):
-        shown = "; ".join(
-            f"{seen.total():,} {kind} (accepted {seen[ACCEPTED]:,}, refused "
-            + ", ".join(f"{number}: {seen[number]:,}" for number in NUMBERS[1:]) + ")"
-            for kind, _, seen, _ in stretches)
-        fixed, texts = stretches
-        unmet = [f"{number} in the {stretch.kind}" for stretch in stretches
-                 for number in stretch.unseen(NUMBERS)
-                 if stretch is fixed or texts.cases >= DEFAULT_TABLES]
-        print(f"reader, seed {self.arguments.seed}: {shown}; "
-              + (f"NOT MET: {', '.join(unmet)}" if unmet else "no difference")
-              + f"; {sum(stretch.seconds for stretch in stretches):.1f} s")
-        return 1 if unmet else 0
 
 
 if __name__ == "__main__":

@@ -1,13 +1,20 @@
-// The four calls of a C host. Every list is bytes, low byte first: 4 a number in the inputs, 8 in the outputs and in the record.
+// The calls of a C host. Every list is bytes, low byte first: 4 a number in the inputs, 8 in the outputs and in the record.
 ghost use mathlib.Core.Path.{_≡_};
 ghost use lib.ListN.{length};
 ghost use Rattle.block_rules.specs.Block.{blockRule};
 ghost use Rattle.wheeling_rules.specs.Wheeling.{numbersIn, ByRule, openingIn, ByteOpened, ByteScheduled, ByteBlocked, ByteClosed};
+ghost use Rattle.check_meter_bytes.specs.DayOnBytes.{ByteDay};
 ghost use Rattle.record_places.specs.RecordSize.{recordBytes};
 
 const RECORD_BYTES: usize = record_places::RECORD_BYTES;
 
-// Each array below has a place more than the largest agreement takes: see `wheeling_lists::read_input` and `wheeling_lists::room`.
+// A day's list, and its output of two numbers: the meter to use, and the count.
+const DAY_LIST_BYTES: usize = 4 * check_meter::DAY_BLOCKS;
+
+const DAY_OUTPUT_BYTES: usize = 16;
+
+// The arrays of a call on a record have a place more than the largest agreement takes: see `wheeling_lists::read_input` and
+// `wheeling_lists::room`. A day has one size only, so its lengths are tested first.
 
 // A block whose inputs are read: its output is made as numbers, and written where it is accepted.
 fn block_on_inputs(bytes: &mut [u8], entry: &[u32], exit: &[u32], output: &mut [u8]) -> u32
@@ -96,4 +103,28 @@ pub extern "C" fn wheeling_close(record: &mut [u8], output: &mut [u8]) -> u32
         return wheeling_lists::give(number, &out, n, output);
     }
     1
+}
+
+#[no_mangle]
+pub extern "C" fn wheeling_day(
+    main_list: &[u8],
+    check_list: &[u8],
+    tolerance: u32,
+    output: &mut [u8],
+) -> u32
+    ensures { λ r. ⌜ ByteDay (numbersIn 4 (now («main_list» .entry))) (numbersIn 4 (now («check_list» .entry))) tolerance (now (output .entry)) r (now (output .exit)) ⌝ }
+{
+    if (main_list.len() == DAY_LIST_BYTES)
+        & (check_list.len() == DAY_LIST_BYTES)
+        & (output.len() == DAY_OUTPUT_BYTES)
+    {
+        let mut main = [0u32; 96];
+        codec::read4(main_list, &mut main);
+        let mut check = [0u32; 96];
+        codec::read4(check_list, &mut check);
+        let both = check_meter::compare(&main, &check, tolerance);
+        let out = [lists::only_if(both.check, 1), lists::wide(both.apart)];
+        return wheeling_lists::give(both.number, &out, 2, output);
+    }
+    2
 }

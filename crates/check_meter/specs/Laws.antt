@@ -1,0 +1,3 @@
+pub mod DaysScanned
+pub mod DaysCompared
+pub mod CheckMeterLaws

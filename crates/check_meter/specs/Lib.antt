@@ -1,0 +1,2 @@
+pub mod CheckMeter
+pub mod Laws

@@ -1,0 +1,2 @@
+pub mod DayOnBytes
+pub mod Laws
