@@ -7,6 +7,9 @@
  *   driver stack CALL G C             bytes of stack per call of both engines
  *   driver replay G C                 processor seconds for twelve years of both engines
  *
+ * The call day has no G and C. In their place stands the meter whose day is to be used: main where
+ * no reading is missing, check where one is missing in each main day.
+ *
  * All inputs and buffers are prepared before anything is measured, and no record is copied
  * inside a measured loop. */
 
@@ -29,12 +32,13 @@ enum {
     EARLIER_BLOCKS = 24, /* in each record before it is measured */
     MEASURED_BLOCKS = 64, /* on each record */
     MEASURED_OPENINGS = 16,
+    MEASURED_DAYS = 16,
+    TOLERANCE = 1000, /* of the measured days */
     STRETCH = 8, /* records that are timed together */
     STRETCHES = RECORDS / STRETCH,
 
     REPLAY_MONTHS = 144,
     REPLAY_MONTH_BLOCKS = 2922, /* 420,768 blocks in 144 months */
-    DAY_BLOCKS = 96,            /* a new schedule each day */
 
     ALTERED_CALLS = 200000,
 };
@@ -103,11 +107,17 @@ struct unit {
     uint8_t exit[READINGS][4 * MOST_CONSUMERS + MARGIN];
 };
 
+struct day {
+    uint8_t main[DAY_LIST_BYTES + MARGIN];
+    uint8_t check[DAY_LIST_BYTES + MARGIN];
+};
+
 static uint32_t generators, consumers, pairs;
 static size_t block_output_bytes, closing_output_bytes;
 static struct unit units[UNITS];
 static uint8_t prepared[RECORDS][RECORD_BYTES]; /* record r: unit r / SCHEDULES */
 static uint8_t working[RECORDS][RECORD_BYTES];
+static struct day days[RECORDS];
 static uint8_t output[MOST_OUTPUT_BYTES];
 
 /* Scheduled and deemed generators alternate; the first is scheduled in even units only. */
@@ -162,6 +172,17 @@ static void draw_unit(struct unit *unit, uint32_t number)
     }
 }
 
+/* Half of the blocks are about the tolerance apart, the others up to twice as far. */
+static void draw_day(struct day *day)
+{
+    for (uint32_t b = 0; b < DAY_BLOCKS; b++) {
+        uint32_t reading = 10000000 + below(40000000);
+        uint32_t apart = below(2) ? TOLERANCE - 1 + below(3) : below(2 * TOLERANCE);
+        put_input(day->main, b, reading);
+        put_input(day->check, b, below(2) ? reading + apart : reading - apart);
+    }
+}
+
 /* ---- one call of each kind, with right lengths ---- */
 
 static uint32_t open_unit(const struct engine *engine, const struct unit *unit, uint8_t *record)
@@ -188,6 +209,12 @@ static uint32_t enter_block(const struct engine *engine, const struct unit *unit
 static uint32_t close_month(const struct engine *engine, uint8_t *record, uint8_t *out)
 {
     return engine->close(record, RECORD_BYTES, out, closing_output_bytes);
+}
+
+static uint32_t compare_meters(const struct engine *engine, const struct day *day, uint8_t *out)
+{
+    return engine->day(day->main, DAY_LIST_BYTES, day->check, DAY_LIST_BYTES, TOLERANCE, out,
+                       DAY_OUTPUT_BYTES);
 }
 
 /* Draws the units of a shape and prepares a record for each schedule, with `engine`. */
@@ -217,10 +244,23 @@ static void prepare(uint32_t shape_generators, uint32_t shape_consumers,
     }
 }
 
+/* Draws the days of both meters, with one reading missing in each main day or none. */
+static void prepare_days(int one_missing)
+{
+    random_state = 1;
+    for (uint32_t d = 0; d < RECORDS; d++) {
+        draw_day(&days[d]);
+        if (one_missing)
+            put_input(days[d].main, below(DAY_BLOCKS), MISSING);
+    }
+}
+
 /* ---- the measured loops ---- */
 
-static const char *const CALL_NAMES[CALLS] = {"open", "schedule", "block", "close"};
-static const uint32_t CALLS_ON_A_RECORD[CALLS] = {MEASURED_OPENINGS, SCHEDULES, MEASURED_BLOCKS, 1};
+static const char *const CALL_NAMES[CALLS] = {"open", "schedule", "block", "close", "day"};
+/* A day takes no record: as many are measured as if each record had some. */
+static const uint32_t CALLS_ON_A_RECORD[CALLS] = {MEASURED_OPENINGS, SCHEDULES, MEASURED_BLOCKS, 1,
+                                                  MEASURED_DAYS};
 
 static uint32_t calls_in_a_round(enum call call)
 {
@@ -239,6 +279,7 @@ static __attribute__((noinline)) uint32_t run_records(const struct engine *engin
             case OPEN: results |= open_unit(engine, unit, working[r]); break;
             case SCHEDULE: results |= enter_schedule(engine, unit, i, working[r]); break;
             case BLOCK: results |= enter_block(engine, unit, i, working[r], output); break;
+            case DAY: results |= compare_meters(engine, &days[(r + i) % RECORDS], output); break;
             default: results |= close_month(engine, working[r], output); break;
             }
         }
@@ -324,6 +365,13 @@ uint32_t empty_block(uint8_t *r, size_t rl, const uint8_t *a, size_t al, const u
 uint32_t empty_close(uint8_t *r, size_t rl, uint8_t *o, size_t ol)
 {
     (void)r, (void)rl, (void)o, (void)ol;
+    return 0;
+}
+
+uint32_t empty_day(const uint8_t *a, size_t al, const uint8_t *b, size_t bl, uint32_t tolerance,
+                   uint8_t *o, size_t ol)
+{
+    (void)a, (void)al, (void)b, (void)bl, (void)tolerance, (void)o, (void)ol;
     return 0;
 }
 
@@ -415,7 +463,7 @@ struct side {
     uint32_t result;
 };
 static struct side verified_side, plain_side;
-static uint64_t compared_calls, calls_by_result[17];
+static uint64_t compared_calls, calls_by_result[BOTH_INCOMPLETE + 1];
 
 static void compare_sides(void)
 {
@@ -428,8 +476,8 @@ static void compare_sides(void)
         fail("the engines' records differ");
     if (memcmp(verified_side.output, plain_side.output, sizeof plain_side.output))
         fail("the engines' outputs differ");
-    if (plain_side.result >= sizeof calls_by_result / sizeof *calls_by_result)
-        fail("a result is no number of the display");
+    if (!is_result(plain_side.result))
+        fail("a result is no number of a call");
     compared_calls++;
     calls_by_result[plain_side.result]++;
 }
@@ -606,6 +654,49 @@ static void compare_altered_call(void)
     }
 }
 
+/* Puts a number in some blocks of a day's list: in none, one, a few or most. */
+static void alter_blocks(uint8_t *list, uint32_t number)
+{
+    static const uint32_t MOST[] = {0, 0, 1, 1, 4, 200};
+    uint32_t left = below(MOST[below(sizeof MOST / sizeof *MOST)] + 1);
+    for (; left > 0; left--)
+        put_input(list, below(DAY_BLOCKS), number);
+}
+
+static void alter_day(uint8_t *list)
+{
+    alter_blocks(list, below(UINT32_MAX));
+    alter_blocks(list, MISSING - below(2));
+}
+
+/* One comparison of a day, with some of its numbers and lengths altered. */
+static void compare_altered_day(void)
+{
+    struct day day = days[below(RECORDS)];
+    uint32_t no_list = below(2);
+    uint32_t tolerance = below(2) ? TOLERANCE : below(2) ? altered_input() : below(UINT32_MAX);
+    size_t main_bytes = maybe_altered_length(DAY_LIST_BYTES);
+    size_t check_bytes = maybe_altered_length(DAY_LIST_BYTES);
+    size_t output_bytes = maybe_altered_length(DAY_OUTPUT_BYTES);
+    alter_day(day.main);
+    alter_day(day.check);
+    BOTH(engine->day(LIST(day.main, main_bytes), LIST(day.check, check_bytes), tolerance,
+                     LIST(side->output, output_bytes)));
+}
+
+/* The measured days, then altered ones. */
+static void compare_days(void)
+{
+    for (int one_missing = 0; one_missing < 2; one_missing++) {
+        prepare_days(one_missing);
+        for (uint32_t d = 0; d < RECORDS; d++)
+            BOTH(compare_meters(engine, &days[d], side->output));
+    }
+    prepare_days(0);
+    for (uint32_t i = 0; i < ALTERED_CALLS; i++)
+        compare_altered_day();
+}
+
 static void compare(int with_long_replay)
 {
     static const uint32_t SHAPES[][2] = {{1, 2}, {3, 4}, {8, 16}};
@@ -617,6 +708,7 @@ static void compare(int with_long_replay)
         if (shape == 0 || with_long_replay)
             compare_replay();
     }
+    compare_days();
     printf("%llu calls of both engines, equal in result, record and output; by result:",
            (unsigned long long)compared_calls);
     for (size_t result = 0; result < sizeof calls_by_result / sizeof *calls_by_result; result++)
@@ -641,25 +733,35 @@ static uint32_t number(const char *text)
     return (uint32_t)strtoul(text, NULL, 10);
 }
 
+/* Prepares what the words CALL G C, or day METER, stand for; the call. */
+static enum call prepare_call(int count, char **words, const struct engine *engine)
+{
+    enum call call = count > 0 ? call_named(words[0]) : CALLS;
+    if (call == DAY && count == 2 && (!strcmp(words[1], "main") || !strcmp(words[1], "check")))
+        prepare_days(!strcmp(words[1], "check"));
+    else if (call < DAY && count == 3)
+        prepare(number(words[1]), number(words[2]), engine);
+    else
+        fail("unknown words; see the head of driver.c");
+    return call;
+}
+
 int main(int argc, char **argv)
 {
     const char *command = argc > 1 ? argv[1] : "";
     if (!strcmp(command, "compare")) {
         compare(argc == 3 && !strcmp(argv[2], "long"));
-    } else if (!strcmp(command, "count") && argc == 6) {
+    } else if (!strcmp(command, "count") && argc > 2) {
         /* The other engine prepares, so that callgrind meets only the measured calls. */
         int verified = !strcmp(argv[2], "wheeling");
-        enum call call = call_named(argv[3]);
-        prepare(number(argv[4]), number(argv[5]), verified ? &PLAIN : &VERIFIED);
+        enum call call = prepare_call(argc - 3, argv + 3, verified ? &PLAIN : &VERIFIED);
         restore_working_records();
         run_round(verified ? &VERIFIED : &PLAIN, call);
         printf("%u\n", calls_in_a_round(call));
-    } else if (!strcmp(command, "time") && argc == 5) {
-        prepare(number(argv[3]), number(argv[4]), &PLAIN);
-        time_call(call_named(argv[2]));
-    } else if (!strcmp(command, "stack") && argc == 5) {
-        prepare(number(argv[3]), number(argv[4]), &PLAIN);
-        measure_stack(call_named(argv[2]));
+    } else if (!strcmp(command, "time")) {
+        time_call(prepare_call(argc - 2, argv + 2, &PLAIN));
+    } else if (!strcmp(command, "stack")) {
+        measure_stack(prepare_call(argc - 2, argv + 2, &PLAIN));
     } else if (!strcmp(command, "replay") && argc == 4) {
         prepare(number(argv[2]), number(argv[3]), &PLAIN);
         time_replay();

@@ -1,4 +1,4 @@
-/* The engines that bench/driver.c and tests/fuzz/calls.c run side by side. Each has the same four
+/* The engines that bench/driver.c and tests/fuzz/calls.c run side by side. Each has the same five
  * C calls under a prefix of its own, on the same bytes: 4 for a number of an input, 8 for one of
  * the record or of an output, low byte first. */
 #ifndef ENGINES_H
@@ -18,9 +18,24 @@ enum {
     RECORD_COUNTS = 7, /* the first places of the record, before its lists; two of them: */
     AT_UNIT_BLOCKS = 5,
     AT_MONTH_BLOCKS = 6,
+
+    DAY_BLOCKS = 96,
+    DAY_LIST_BYTES = 4 * DAY_BLOCKS,
+    DAY_OUTPUT_BYTES = 8 * 2,
+
+    MONTH_EMPTY = 13,     /* results */
+    BOTH_INCOMPLETE = 17, /* the highest */
 };
 
-enum call { OPEN, SCHEDULE, BLOCK, CLOSE, CALLS };
+#define MISSING UINT32_MAX /* in a day's list: the reading of this block is missing */
+
+enum call { OPEN, SCHEDULE, BLOCK, CLOSE, DAY, CALLS };
+
+/* 14 to 16 are refusals of the readings table, which no C call reads. */
+static inline int is_result(uint32_t number)
+{
+    return number <= MONTH_EMPTY || number == BOTH_INCOMPLETE;
+}
 
 /* G, C, rate, cycle, months gone; the lists of generators and pairs; the record */
 typedef uint32_t open_call(uint32_t, uint32_t, uint32_t, uint32_t, uint32_t, const uint8_t *,
@@ -32,6 +47,9 @@ typedef uint32_t block_call(uint8_t *, size_t, const uint8_t *, size_t, const ui
                             uint8_t *, size_t);
 /* the record; the output */
 typedef uint32_t close_call(uint8_t *, size_t, uint8_t *, size_t);
+/* the main meter's day; the check meter's; tolerance; the output */
+typedef uint32_t day_call(const uint8_t *, size_t, const uint8_t *, size_t, uint32_t, uint8_t *,
+                          size_t);
 
 struct engine {
     const char *name;
@@ -39,16 +57,19 @@ struct engine {
     schedule_call *schedule;
     block_call *block;
     close_call *close;
+    day_call *day;
 };
 
 #define DECLARE_ENGINE(prefix)              \
     extern open_call prefix##_open;         \
     extern schedule_call prefix##_schedule; \
     extern block_call prefix##_block;       \
-    extern close_call prefix##_close
+    extern close_call prefix##_close;       \
+    extern day_call prefix##_day
 
 /* The value of a struct engine. */
-#define ENGINE(prefix) {#prefix, prefix##_open, prefix##_schedule, prefix##_block, prefix##_close}
+#define ENGINE(prefix) \
+    {#prefix, prefix##_open, prefix##_schedule, prefix##_block, prefix##_close, prefix##_day}
 
 #define BLOCK_OUTPUT_BYTES(g, c) (8 * (4 * (g) * (c) + (g) + (c)))
 #define CLOSE_OUTPUT_BYTES(g, c) (8 * ((g) * (c) + 3 * (g) + 2 * (c)))

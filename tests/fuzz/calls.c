@@ -1,6 +1,7 @@
-/* Fuzz target: the bytes of one input become a list of calls on one unit, and each call is made on
- * several engines side by side. After every call the number, the record, the output, the inputs and
- * the guard bytes around all of them are compared; a difference ends the process.
+/* Fuzz target: the bytes of one input become a list of calls on one unit, days of two meters among
+ * them, and each call is made on several engines side by side. After every call the number, the
+ * record, the output, the inputs and the guard bytes around all of them are compared; a difference
+ * ends the process.
  *
  *   wheeling_*          the library as it is delivered
  *   traced_wheeling_*   the same source compiled with coverage counters: the fuzzer's guide
@@ -45,7 +46,7 @@ static const struct engine ENGINES[] = {
 };
 enum { ENGINE_COUNT = sizeof ENGINES / sizeof *ENGINES };
 
-static uint64_t calls_made, calls_by_number[14];
+static uint64_t calls_made, calls_by_number[BOTH_INCOMPLETE + 1];
 
 static void differs(const char *engine, const char *what)
 {
@@ -153,7 +154,7 @@ static uint32_t edge(void)
         0,     1,     2,     3,      4,      8,      9,         11,        12,        13,
         16,    17,    249,   250,    255,    256,    1000,      4999,      5000,      5001,
         9999,  10000, 10001, 399999, 400000, 400001, 100000000, 199999999, 200000000, 200000001,
-        65535, 65536, 0x7fffffff, 0x80000000, 0xffffffff};
+        65535, 65536, 0x7fffffff, 0x80000000, 0xfffffffe, 0xffffffff};
     return EDGES[next_byte() % (sizeof EDGES / sizeof *EDGES)];
 }
 
@@ -239,6 +240,7 @@ static size_t maybe_altered(size_t size)
 
 /* ---- one call on every engine ---- */
 
+/* The terms are those of an opening, or the tolerance of a day. */
 static void call_all(enum call call, const uint32_t terms[5], struct list lists[2],
                      size_t output_size)
 {
@@ -271,7 +273,9 @@ static void call_all(enum call call, const uint32_t terms[5], struct list lists[
             : call == SCHEDULE ? engine->schedule(own, record_size, in[0], sizes[0], in[1], sizes[1])
             : call == BLOCK ? engine->block(own, record_size, in[0], sizes[0], in[1], sizes[1], out,
                                             output_size)
-                            : engine->close(own, record_size, out, output_size);
+            : call == DAY ? engine->day(in[0], sizes[0], in[1], sizes[1], terms[0], out,
+                                        output_size)
+                          : engine->close(own, record_size, out, output_size);
 
         if (e == 0) {
             number = result;
@@ -290,8 +294,8 @@ static void call_all(enum call call, const uint32_t terms[5], struct list lists[
         if (!guards_whole(&lent_record[e]) || !guards_whole(&lent_output[e]))
             differs(engine->name, "bytes around a buffer were written");
     }
-    if (number >= sizeof calls_by_number / sizeof *calls_by_number)
-        differs("all", "no number of the display");
+    if (!is_result(number))
+        differs("all", "no number of a call");
     if (number != 0 && (memcmp(long_record, lent_record[0].start, record_size) ||
                         memcmp(pattern, answer, output_size)))
         differs("all", "a refused call wrote");
@@ -382,6 +386,38 @@ static void close_month(void)
     call_all(CLOSE, NO_TERMS, lists, CLOSE_OUTPUT_BYTES(G, C));
 }
 
+/* Mostly the length asked for, at times any. */
+static size_t mostly(size_t length)
+{
+    return next_byte() < 232 ? length : next_byte();
+}
+
+static void lose_readings(struct list *list)
+{
+    uint32_t lost = next_byte();
+    for (lost = lost < 128 ? 0 : lost < 192 ? 1 : lost - 191; lost > 0; lost--)
+        list->numbers[random_below(DAY_BLOCKS)] = MISSING;
+}
+
+/* The two meters' readings are about the tolerance apart: none, some or all of them further. One
+ * below 0 wraps around, so that some are far apart. */
+static void day(void)
+{
+    uint32_t tolerance = number_within(0, 5000), most = number_within(0, 200000000);
+    uint32_t terms[5] = {tolerance}, nearest = tolerance - 2 + next_byte() % 4;
+    random_state = next_number(2);
+    for (uint32_t b = 0; b < DAY_BLOCKS; b++) {
+        uint32_t apart = nearest + random_below(3);
+        lists[0].numbers[b] = most - random_below(1000);
+        lists[1].numbers[b] = lists[0].numbers[b] + (random_below(2) ? apart : -apart);
+    }
+    lose_readings(&lists[0]);
+    lose_readings(&lists[1]);
+    finish_list(&lists[0], mostly(DAY_BLOCKS));
+    finish_list(&lists[1], mostly(DAY_BLOCKS));
+    call_all(DAY, terms, lists, mostly(DAY_OUTPUT_BYTES));
+}
+
 /* ---- what a host may do to the record between calls ---- */
 
 static void damage(void)
@@ -436,7 +472,7 @@ static void run_list(const uint8_t *bytes, size_t size)
     open_unit();
     while (input_left > 0 && calls_made < end) {
         uint32_t action = next_byte();
-        switch (action % 16) {
+        switch (action % 17) {
         case 0: open_unit(); break;
         case 1: case 2: case 3: schedule(); break;
         case 4: case 5: case 6: blocks(1); break;
@@ -445,7 +481,8 @@ static void run_list(const uint8_t *bytes, size_t size)
         case 11: damage(); break;
         case 12: damage(); damage(); break;
         case 13: age(); break;
-        default: add_balanced(); break;
+        case 14: case 15: add_balanced(); break;
+        default: day(); break;
         }
     }
 }
@@ -453,8 +490,9 @@ static void run_list(const uint8_t *bytes, size_t size)
 static void report(void)
 {
     fprintf(stderr, "%llu calls by number:", (unsigned long long)calls_made);
-    for (size_t number = 0; number < sizeof calls_by_number / sizeof *calls_by_number; number++)
-        fprintf(stderr, " %zu: %llu", number, (unsigned long long)calls_by_number[number]);
+    for (uint32_t number = 0; number <= BOTH_INCOMPLETE; number++)
+        if (is_result(number))
+            fprintf(stderr, " %u: %llu", number, (unsigned long long)calls_by_number[number]);
     fprintf(stderr, "\n");
 }
 

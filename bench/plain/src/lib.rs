@@ -1,5 +1,6 @@
-//! The plain engine: the energy account of one unit by document 01, as ordinary Rust without
-//! proofs. It is the baseline that the verified library is measured against.
+//! The plain engine: the energy account of one unit by document 01 and the check-meter input of
+//! document 02, as ordinary Rust without proofs. It is the baseline that the verified library is
+//! measured against.
 
 mod engine;
 mod record;
@@ -128,6 +129,29 @@ pub unsafe extern "C" fn plain_close(
 ) -> u32 {
     display_number(engine::close(
         lent_mut(record, record_bytes),
+        lent_mut(output, output_bytes),
+    ))
+}
+
+/// Says which of two meters' days is to be used.
+///
+/// # Safety
+/// As for [`plain_open`].
+#[cfg_attr(not(feature = "wheeling-names"), export_name = "plain_day")]
+#[cfg_attr(feature = "wheeling-names", export_name = "wheeling_day")]
+pub unsafe extern "C" fn plain_day(
+    main: *const u8,
+    main_bytes: usize,
+    check: *const u8,
+    check_bytes: usize,
+    tolerance: u32,
+    output: *mut u8,
+    output_bytes: usize,
+) -> u32 {
+    display_number(engine::day(
+        lent(main, main_bytes),
+        lent(check, check_bytes),
+        tolerance,
         lent_mut(output, output_bytes),
     ))
 }

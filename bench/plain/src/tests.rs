@@ -1,5 +1,6 @@
-use crate::engine::{self, Refusal, Terms};
+use crate::engine::{self, Refusal, Terms, DAY_BLOCKS, MISSING};
 use crate::record::{numbers, Record, MOST_MONTH_BLOCKS, MOST_UNIT_BLOCKS, RECORD_BYTES};
+use std::ptr;
 
 fn bytes(values: &[u32]) -> Vec<u8> {
     values
@@ -535,4 +536,82 @@ fn refusals_10_to_13() {
     unit.close();
     assert_eq!(unit.refused_block(&[0], &[0, 0]), Refusal::UnitFull);
     assert_eq!(unit.refused_close(), Refusal::MonthEmpty);
+}
+
+/// A day of one reading in every block but those listed.
+fn day_of(reading: u32, others: &[(usize, u32)]) -> [u32; DAY_BLOCKS] {
+    let mut day = [reading; DAY_BLOCKS];
+    for (block, reading) in others {
+        day[*block] = *reading;
+    }
+    day
+}
+
+/// Meter and count, as the call on bytes writes them; a refusal leaves the output's bytes.
+fn day(main: &[u32], check: &[u32], tolerance: u32) -> Result<Vec<u64>, Refusal> {
+    let mut output = vec![0xee; 16];
+    let result = engine::day(&bytes(main), &bytes(check), tolerance, &mut output);
+    assert!(result.is_ok() || output.iter().all(|byte| *byte == 0xee));
+    result.map(|()| values(&mut output))
+}
+
+#[test]
+fn the_main_day_is_used_unless_a_reading_is_missing_there() {
+    let whole = day_of(1_000, &[(7, MISSING - 1)]);
+    let also_lacking = day_of(0, &[(20, MISSING)]);
+    assert_eq!(day(&whole, &whole, 0), Ok(vec![0, 0]));
+    for block in [0, 50, 95] {
+        let lacking = day_of(1_000, &[(7, MISSING - 1), (block, MISSING)]);
+        assert_eq!(day(&whole, &lacking, 0), Ok(vec![0, 0]));
+        assert_eq!(day(&lacking, &whole, 0), Ok(vec![1, 0]));
+        assert_eq!(
+            day(&lacking, &also_lacking, 0),
+            Err(Refusal::BothIncomplete)
+        );
+    }
+}
+
+#[test]
+fn a_day_to_use_is_the_callers_own() {
+    let whole = day_of(1_000, &[]);
+    let same = day_of(1_000, &[]);
+    let lacking = day_of(1_000, &[(95, MISSING)]);
+    let (used, _) = engine::day_to_use(&whole, &same, 0).unwrap();
+    assert!(ptr::eq(used, &whole[..]));
+    let (used, _) = engine::day_to_use(&lacking, &same, 0).unwrap();
+    assert!(ptr::eq(used, &same[..]));
+}
+
+#[test]
+fn blocks_further_apart_than_the_tolerance_are_counted() {
+    let main = day_of(1_000, &[(0, 1_100), (1, 1_101), (2, MISSING), (95, 0)]);
+    let check = day_of(1_000, &[(3, 1_100), (4, 1_101), (5, 899), (6, 900)]);
+    assert_eq!(day(&main, &check, 100), Ok(vec![1, 4]));
+    assert_eq!(day(&check, &main, 100), Ok(vec![0, 4]));
+    assert_eq!(day(&main, &check, 99), Ok(vec![1, 7]));
+    let (least, most) = (day_of(0, &[]), day_of(MISSING - 1, &[]));
+    assert_eq!(day(&least, &most, MISSING - 2), Ok(vec![0, 96]));
+    assert_eq!(day(&least, &most, MISSING - 1), Ok(vec![0, 0]));
+    assert_eq!(day(&least, &most, MISSING), Ok(vec![0, 0]));
+}
+
+#[test]
+fn refusal_2_of_a_day_comes_before_17() {
+    let lacking = day_of(0, &[(0, MISSING)]);
+    let whole = day_of(0, &[]);
+    assert_eq!(day(&lacking[1..], &whole, 0), Err(Refusal::Length));
+    assert_eq!(day(&whole, &[0; 97], 0), Err(Refusal::Length));
+    assert_eq!(day(&lacking, &lacking[..95], 0), Err(Refusal::Length));
+    assert_eq!(
+        engine::day_to_use(&lacking[..], &lacking[..95], 0),
+        Err(Refusal::Length)
+    );
+
+    let (main, check) = (bytes(&lacking), bytes(&lacking));
+    for output_bytes in [0, 15, 17, 24] {
+        let result = engine::day(&main, &check, 0, &mut vec![0; output_bytes]);
+        assert_eq!(result, Err(Refusal::Length));
+    }
+    let result = engine::day(&main[1..], &check, 0, &mut [0; 16]);
+    assert_eq!(result, Err(Refusal::Length));
 }
