@@ -1,25 +1,21 @@
 -- `check_meter::compare` makes the tests in their order. Assumes nothing.
 use mathlib.Core.Path.{_∙_}
 use borrow.Author.Needs.{needs}
-use Rattle.check_meter.specs.Laws.DaysCompared.{not-of-96, both-of-96, both-incomplete, compared}
+use Rattle.check_meter.specs.Laws.DaysCompared.{not-of-96, both-of-96, compared}
 use Rattle.check_meter.proofs.compare.Statement.{statement}
 use Rattle.check_meter.proofs.compare.Tie as tie
 
 returns : tie.Need-returns
-returns c = c .refused .ensures ∙ not-of-96 _ _ _ (c .before .if1 .taken)
+returns c = c .answered .ensures ∙ not-of-96 _ _ _ (c .before .if1 .taken)
 
 scan-requires : tie.Need-scan-requires
 scan-requires c κs = both-of-96 (c .if1 .left)
 
 returns-2 : tie.Need-returns-2
 returns-2 c =
-    let passed = c .before .before in
-    c .refused2 .ensures ∙ both-incomplete _ _ _ (passed .before .if1 .left) (passed .scan .ensures) (c .before .if2 .taken)
-
-returns-3 : tie.Need-returns-3
-returns-3 c =
-    let passed = c .before in
-    compared _ _ _ (passed .before .if1 .left) (passed .scan .ensures) (c .if2 .left)
+    let numbered = c .before in
+    let passed = numbered .before in
+    c .answered2 .ensures ∙ compared _ _ _ (passed .before .if1 .left) (passed .scan .ensures) (numbered .first .ensures)
 
 pub compare-spec : {M : Type 1} → statement M
-compare-spec = tie.close (tie.spec (λ c κs. search needs) returns scan-requires (λ c κs. search needs) returns-2 returns-3)
+compare-spec = tie.close (tie.spec (λ c κs. search needs) returns scan-requires (λ c κs. search needs) (λ c κs. search needs) returns-2)

@@ -1,4 +1,4 @@
--- What `compare` and `refused` promise, and the laws by which the day's functions are proved. Assumes nothing.
+-- What `compare` and `answered` promise, and the laws by which the day's functions are proved. Assumes nothing.
 use Prim.Native.Nat.{ℕ, suc, _≤_}
 use mathlib.Core.Path.{_≡_, refl, sym, ap, _∙_}
 use mathlib.Core.Bool.{Bool, true, false, _||_, _&&_, not}
@@ -17,18 +17,13 @@ use Rattle.check_meter.specs.declared.Comparison.{Comparison}
 use Rattle.check_meter.specs.declared.Found.{Found}
 use Rattle.check_meter.specs.Laws.DaysScanned.{foundIn}
 
-abbrev pub refusedBy : ℕ → Comparison
-refusedBy number = record { number = number; check = false; apart = 0 }
+-- where the number is that of a refusal, no meter is named and no block counted
+abbrev pub answer : (number : ℕ) (check : Bool) (apart : ℕ) → Comparison
+answer number check apart = record { number = number; check = eqb number 0 && check; apart = if eqb number 0 then apart else 0 }
 
 -- what two days give together
 unfoldable pub comparison : (tolerance : ℕ) (main check : List ℕ) → Comparison
-comparison tolerance main check =
-    let number = dayNumber main check in
-    record {
-      number = number;
-      check = eqb number 0 && incomplete main;
-      apart = if eqb number 0 then blocksApart tolerance main check else 0;
-    }
+comparison tolerance main check = answer (dayNumber main check) (incomplete main) (blocksApart tolerance main check)
 
 -- ---- the comparison, branch by branch
 
@@ -54,18 +49,15 @@ module _ (tolerance : ℕ) (main check : List ℕ) where
   abbrev misfit : Bool
   misfit = not (eqb (length main) dayBlocks) || not (eqb (length check) dayBlocks)
 
-  pub not-of-96 : misfit ≡ true → refusedBy 2 ≡ comparison tolerance main check
+  pub not-of-96 : misfit ≡ true → answer 2 false 0 ≡ comparison tolerance main check
   unfolding comparison dayNumber firstOf
   not-of-96 e = rw e
 
-  module _ (fit : misfit ≡ false) {found : Found} (e : found ≡ foundIn tolerance main check) where
-    pub both-incomplete : found .main && found .check ≡ true → refusedBy 17 ≡ comparison tolerance main check
-    unfolding comparison dayNumber firstOf
-    both-incomplete t = rw (fit, rw e at t)
-
-    pub compared : found .main && found .check ≡ false → record { number = 0; check = found .main; apart = found .apart } ≡ comparison tolerance main check
-    unfolding comparison dayNumber firstOf
-    compared t = rw (e, fit, rw e at t)
+  pub compared :
+      {found : Found} {number : ℕ} → misfit ≡ false → found ≡ foundIn tolerance main check → number ≡ (if found .main && found .check then 17 else 0) →
+      answer number (found .main) (found .apart) ≡ comparison tolerance main check
+  unfolding comparison dayNumber firstOf
+  compared fit e n = rw (n, e, fit)
 
 -- ---- what the comparison tells
 
