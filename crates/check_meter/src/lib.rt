@@ -3,7 +3,7 @@ ghost use mathlib.Core.Path.{_≡_};
 ghost use lib.ListN.{length};
 ghost use Rattle.check_meter.specs.CheckMeter.{dayBlocks, distance, furtherApart, stretchOf, DayHandedBack};
 ghost use Rattle.check_meter.specs.Laws.DaysScanned.{foundIn};
-ghost use Rattle.check_meter.specs.Laws.DaysCompared.{answer, comparison};
+ghost use Rattle.check_meter.specs.Laws.DaysCompared.{told, comparison};
 
 // What stands in the place of a missing reading.
 pub const MISSING: u32 = 4_294_967_295;
@@ -61,9 +61,9 @@ fn scan(main: &[u32], check: &[u32], tolerance: u32) -> Found
     }
 }
 
-// What a number lets through: of refused days no meter is named and no block counted.
-fn answered(number: u32, check: bool, apart: u32) -> Comparison
-    ensures { λ r. ⌜ r ≡ answer number check apart ⌝ }
+// What is told of two days under a number: of refused days no meter and no block apart.
+fn tell(number: u32, check: bool, apart: u32) -> Comparison
+    ensures { λ r. ⌜ r ≡ told number check apart ⌝ }
 {
     let accepted = number == 0;
     Comparison {
@@ -78,13 +78,13 @@ pub fn compare(main: &[u32], check: &[u32], tolerance: u32) -> Comparison
     ensures { λ r. ⌜ r ≡ comparison tolerance (now (main .entry)) (now (check .entry)) ⌝ }
 {
     if (main.len() != DAY_BLOCKS) | (check.len() != DAY_BLOCKS) {
-        return answered(2, false, 0);
+        return tell(2, false, 0);
     }
     let found = scan(main, check, tolerance);
     let main_lacks = found.main;
     let check_lacks = found.check;
     let number = lists::first(main_lacks & check_lacks, 17, 0);
-    answered(number, main_lacks, found.apart)
+    tell(number, main_lacks, found.apart)
 }
 
 // Hands back the day to be used, a part of what the caller lent: the main meter's where none of its readings is missing, otherwise the check

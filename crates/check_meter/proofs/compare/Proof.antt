@@ -6,7 +6,7 @@ use Rattle.check_meter.proofs.compare.Statement.{statement}
 use Rattle.check_meter.proofs.compare.Tie as tie
 
 returns : tie.Need-returns
-returns c = c .answered .ensures ∙ not-of-96 _ _ _ (c .before .if1 .taken)
+returns c = c .tell .ensures ∙ not-of-96 _ _ _ (c .before .if1 .taken)
 
 scan-requires : tie.Need-scan-requires
 scan-requires c κs = both-of-96 (c .if1 .left)
@@ -15,7 +15,7 @@ returns-2 : tie.Need-returns-2
 returns-2 c =
     let numbered = c .before in
     let passed = numbered .before in
-    c .answered2 .ensures ∙ compared _ _ _ (passed .before .if1 .left) (passed .scan .ensures) (numbered .first .ensures)
+    c .tell2 .ensures ∙ compared _ _ _ (passed .before .if1 .left) (passed .scan .ensures) (numbered .first .ensures)
 
 pub compare-spec : {M : Type 1} → statement M
 compare-spec = tie.close (tie.spec (λ c κs. search needs) returns scan-requires (λ c κs. search needs) (λ c κs. search needs) returns-2)

@@ -7,7 +7,6 @@ use native.Mathlib.Omega.{arith}
 use borrow.Author.Tests.{eqb-true, eqb-false, le-ltb}
 use lib.Dec.{eqb, ltb}
 use lib.ListN.{getD}
-use Rattle.lists.specs.Choice.{if_then_else_}
 use Rattle.lists.specs.Laws.ChoiceLaws.{if-either}
 use Rattle.lists.specs.Tests.{some}
 use Rattle.lists.specs.Laws.SumsLaws.{sum-cap, sum-zero}

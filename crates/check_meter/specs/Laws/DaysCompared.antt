@@ -1,8 +1,8 @@
--- What `compare` and `answered` promise, and the laws by which the day's functions are proved. Assumes nothing.
-use Prim.Native.Nat.{ℕ, suc, _≤_}
+-- What `compare` and `tell` promise, and the laws by which the day's functions are proved. Assumes nothing.
+use Prim.Native.Nat.{ℕ}
 use mathlib.Core.Path.{_≡_, refl, sym, ap, _∙_}
 use mathlib.Core.Bool.{Bool, true, false, _||_, _&&_, not}
-use mathlib.Core.List.{List, []}
+use mathlib.Core.List.{List}
 use native.Mathlib.Omega.{arith}
 use borrow.Author.Tests.{eq-eqb, ne-eqb, eqb-true, not-false}
 use lib.Dec.{eqb}
@@ -17,13 +17,13 @@ use Rattle.check_meter.specs.declared.Comparison.{Comparison}
 use Rattle.check_meter.specs.declared.Found.{Found}
 use Rattle.check_meter.specs.Laws.DaysScanned.{foundIn}
 
--- where the number is that of a refusal, no meter is named and no block counted
-abbrev pub answer : (number : ℕ) (check : Bool) (apart : ℕ) → Comparison
-answer number check apart = record { number = number; check = eqb number 0 && check; apart = if eqb number 0 then apart else 0 }
+-- What is told of two days under a number: where it is a refusal's, no meter and no block apart.
+abbrev pub told : (number : ℕ) (check : Bool) (apart : ℕ) → Comparison
+told number check apart = record { number = number; check = eqb number 0 && check; apart = if eqb number 0 then apart else 0 }
 
 -- what two days give together
 unfoldable pub comparison : (tolerance : ℕ) (main check : List ℕ) → Comparison
-comparison tolerance main check = answer (dayNumber main check) (incomplete main) (blocksApart tolerance main check)
+comparison tolerance main check = told (dayNumber main check) (incomplete main) (blocksApart tolerance main check)
 
 -- ---- the comparison, branch by branch
 
@@ -49,13 +49,13 @@ module _ (tolerance : ℕ) (main check : List ℕ) where
   abbrev misfit : Bool
   misfit = not (eqb (length main) dayBlocks) || not (eqb (length check) dayBlocks)
 
-  pub not-of-96 : misfit ≡ true → answer 2 false 0 ≡ comparison tolerance main check
+  pub not-of-96 : misfit ≡ true → told 2 false 0 ≡ comparison tolerance main check
   unfolding comparison dayNumber firstOf
   not-of-96 e = rw e
 
   pub compared :
       {found : Found} {number : ℕ} → misfit ≡ false → found ≡ foundIn tolerance main check → number ≡ (if found .main && found .check then 17 else 0) →
-      answer number (found .main) (found .apart) ≡ comparison tolerance main check
+      told number (found .main) (found .apart) ≡ comparison tolerance main check
   unfolding comparison dayNumber firstOf
   compared fit e n = rw (n, e, fit)
 

@@ -1,12 +1,11 @@
 -- One pass over both days: what it finds, and the invariant of its loop. Assumes nothing.
 use Prim.Native.Nat.{ℕ, _+_, _≤_, _<_}
-use mathlib.Core.Path.{_≡_, sym, ap, _∙_}
+use mathlib.Core.Path.{_≡_, _∙_}
 use mathlib.Core.Bool.{Bool, true, false, _||_}
 use mathlib.Core.List.{List}
 use native.Mathlib.Omega.{arith}
 use lib.ListN.{length, getD}
 use Rattle.lists.specs.Choice.{if_then_else_}
-use Rattle.lists.specs.Tests.{some}
 use Rattle.lists.specs.Laws.TestsLaws.{Looking, look-start, look-step, look-done}
 use Rattle.lists.specs.Laws.SumsLaws.{Summing, sum-start, sum-step, sum-done}
 use Rattle.check_meter.specs.CheckMeter.{dayBlocks, missing, incomplete, furtherApart, blocksApart}
