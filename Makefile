@@ -5,7 +5,7 @@
 # make fuzz         tests/fuzz/run: damaged and random input to the library
 # make install      header, library and wheeling.pc below PREFIX (default /usr/local), in DESTDIR where that is given
 # make clean        removes all that was built: the next make proves everything again
-VERSION = 0.1.0
+VERSION = 0.2.0
 PREFIX = /usr/local
 DESTDIR =
 CC = gcc

@@ -1,14 +1,16 @@
 /* Compares and measures two engines with the same C interface, linked into this one program:
  * the verified library (wheeling_*) and the plain baseline (plain_*).
  *
- *   driver compare [long]             both engines in lockstep, every byte compared
- *   driver count ENGINE CALL G C      the measured calls once, for callgrind; prints their number
- *   driver time CALL G C              nanoseconds per call of both engines
- *   driver stack CALL G C             bytes of stack per call of both engines
- *   driver replay G C                 processor seconds for twelve years of both engines
+ *   driver compare [long]                    both engines in lockstep, every byte compared
+ *   driver count ENGINE CALL G C [hours]     the measured calls once, for callgrind; prints their
+ *                                            number
+ *   driver time CALL G C [hours]             nanoseconds per call of both engines
+ *   driver stack CALL G C [hours]            bytes of stack per call of both engines
+ *   driver replay G C                        processor seconds for twelve years of both engines
  *
- * The call day has no G and C. In their place stands the meter whose day is to be used: main where
- * no reading is missing, check where one is missing in each main day.
+ * With the word hours the units bank by hours from their first month on, without it never. The
+ * call day has no G and C. In their place stands the meter whose day is to be used: main where no
+ * reading is missing, check where one is missing in each main day.
  *
  * All inputs and buffers are prepared before anything is measured, and no record is copied
  * inside a measured loop. */
@@ -29,7 +31,7 @@ enum {
     SCHEDULES = 16, /* of each unit */
     READINGS = 256, /* of each unit */
     RECORDS = UNITS * SCHEDULES,
-    EARLIER_BLOCKS = 24, /* in each record before it is measured */
+    EARLIER_BLOCKS = 24, /* in each record before it is measured; by hours, those of a day */
     MEASURED_BLOCKS = 64, /* on each record */
     MEASURED_OPENINGS = 16,
     MEASURED_DAYS = 16,
@@ -40,8 +42,14 @@ enum {
     REPLAY_MONTHS = 144,
     REPLAY_MONTH_BLOCKS = 2922, /* 420,768 blocks in 144 months */
 
-    ALTERED_CALLS = 200000,
+    ALTERED_CALLS = 100000, /* of each shape and way of banking */
+    ALTERED_DAYS = 200000,
+    CHANGING_UNITS = 400, /* of each shape */
+    CHANGING_MONTHS = 5,  /* of each of them */
 };
+
+/* Switch month 0; switch month 1; records on both sides of a later switch month. */
+enum banking { BY_CYCLE, BY_HOURS, CHANGING, BANKINGS };
 
 /* ---- the engines ---- */
 
@@ -98,7 +106,7 @@ static double processor_seconds(void)
 /* ---- inputs ---- */
 
 struct unit {
-    uint32_t rate, cycle, gone;
+    uint32_t rate, cycle, gone, switch_month;
     uint8_t generator_list[4 * 3 * MOST_GENERATORS + MARGIN];
     uint8_t pair_list[4 * 2 * MOST_PAIRS + MARGIN];
     uint8_t kw[SCHEDULES][4 * MOST_PAIRS + MARGIN];
@@ -188,8 +196,8 @@ static void draw_day(struct day *day)
 static uint32_t open_unit(const struct engine *engine, const struct unit *unit, uint8_t *record)
 {
     return engine->open(generators, consumers, unit->rate, unit->cycle, unit->gone,
-                        unit->generator_list, 12 * generators, unit->pair_list, 8 * pairs, record,
-                        RECORD_BYTES);
+                        unit->switch_month, unit->generator_list, 12 * generators,
+                        unit->pair_list, 8 * pairs, record, RECORD_BYTES);
 }
 
 static uint32_t enter_schedule(const struct engine *engine, const struct unit *unit, uint32_t s,
@@ -217,8 +225,33 @@ static uint32_t compare_meters(const struct engine *engine, const struct day *da
                        DAY_OUTPUT_BYTES);
 }
 
+/* Enters blocks with drawn readings; the bits of all results. */
+static uint32_t enter_drawn_blocks(const struct engine *engine, const struct unit *unit,
+                                   uint32_t count, uint8_t *record)
+{
+    uint32_t results = 0;
+    while (count-- > 0)
+        results |= enter_block(engine, unit, below(READINGS), record, output);
+    return results;
+}
+
+/* Of unit u. The changing units: never, at once, after the first month, after the third. */
+static uint32_t switch_month_of(enum banking banking, uint32_t u)
+{
+    static const uint32_t CHANGING_AT[UNITS] = {0, 1, 2, 4};
+    return banking == BY_CYCLE ? 0 : banking == BY_HOURS ? 1 : CHANGING_AT[u];
+}
+
+/* In the open month of a record: by hours a day, so that each class of hours has energy. */
+static uint32_t earlier_blocks(enum banking banking)
+{
+    return banking == BY_CYCLE ? EARLIER_BLOCKS
+           : banking == BY_HOURS ? DAY_BLOCKS
+                                 : 1 + below(DAY_BLOCKS);
+}
+
 /* Draws the units of a shape and prepares a record for each schedule, with `engine`. */
-static void prepare(uint32_t shape_generators, uint32_t shape_consumers,
+static void prepare(uint32_t shape_generators, uint32_t shape_consumers, enum banking banking,
                     const struct engine *engine)
 {
     generators = shape_generators;
@@ -230,15 +263,20 @@ static void prepare(uint32_t shape_generators, uint32_t shape_consumers,
     block_output_bytes = BLOCK_OUTPUT_BYTES(generators, consumers);
     closing_output_bytes = CLOSE_OUTPUT_BYTES(generators, consumers);
     random_state = 1000 * generators + consumers;
-    for (uint32_t u = 0; u < UNITS; u++)
+    for (uint32_t u = 0; u < UNITS; u++) {
         draw_unit(&units[u], u);
+        units[u].switch_month = switch_month_of(banking, u);
+    }
 
     for (uint32_t r = 0; r < RECORDS; r++) {
         const struct unit *unit = &units[r / SCHEDULES];
         uint32_t refused = open_unit(engine, unit, prepared[r]);
         refused |= enter_schedule(engine, unit, r % SCHEDULES, prepared[r]);
-        for (uint32_t b = 0; b < EARLIER_BLOCKS; b++)
-            refused |= enter_block(engine, unit, below(READINGS), prepared[r], output);
+        for (uint32_t months = banking == CHANGING ? r % 4 : 0; months > 0; months--) {
+            refused |= enter_drawn_blocks(engine, unit, 1 + below(DAY_BLOCKS), prepared[r]);
+            refused |= close_month(engine, prepared[r], output);
+        }
+        refused |= enter_drawn_blocks(engine, unit, earlier_blocks(banking), prepared[r]);
         if (refused)
             fail("a preparing call was refused");
     }
@@ -341,9 +379,10 @@ static void time_call(enum call call)
 /* ---- stack ---- */
 
 uint32_t empty_open(uint32_t g, uint32_t c, uint32_t rate, uint32_t cycle, uint32_t gone,
-                    const uint8_t *a, size_t al, const uint8_t *b, size_t bl, uint8_t *r, size_t rl)
+                    uint32_t switch_month, const uint8_t *a, size_t al, const uint8_t *b,
+                    size_t bl, uint8_t *r, size_t rl)
 {
-    (void)g, (void)c, (void)rate, (void)cycle, (void)gone;
+    (void)g, (void)c, (void)rate, (void)cycle, (void)gone, (void)switch_month;
     (void)a, (void)al, (void)b, (void)bl, (void)r, (void)rl;
     return 0;
 }
@@ -463,7 +502,7 @@ struct side {
     uint32_t result;
 };
 static struct side verified_side, plain_side;
-static uint64_t compared_calls, calls_by_result[BOTH_INCOMPLETE + 1];
+static uint64_t compared_calls, calls_by_result[HIGHEST_RESULT + 1];
 
 static void compare_sides(void)
 {
@@ -494,10 +533,12 @@ static void compare_sides(void)
         compare_sides();                                        \
     } while (0)
 
-static void compare_replay(void)
+/* The twelve years with one switch month or another. */
+static void compare_replay(uint32_t switch_month)
 {
-    const struct unit *unit = &units[1];
+    struct unit *unit = &units[1];
     uint32_t block = 0;
+    unit->switch_month = switch_month;
     BOTH(open_unit(engine, unit, side->record));
     for (uint32_t month = 0; month < REPLAY_MONTHS; month++) {
         for (uint32_t b = 0; b < REPLAY_MONTH_BLOCKS; b++, block++) {
@@ -507,6 +548,26 @@ static void compare_replay(void)
             BOTH(enter_block(engine, unit, r, side->record, side->output));
         }
         BOTH(close_month(engine, side->record, side->output));
+    }
+}
+
+/* Short months of units with drawn switch months. */
+static void compare_changing_units(void)
+{
+    static const uint32_t SWITCH_MONTHS[] = {0, 0, 1, 2, 3, 4, 5, MOST_SWITCH_MONTH};
+    for (uint32_t n = 0; n < CHANGING_UNITS; n++) {
+        struct unit *unit = &units[n % UNITS];
+        unit->switch_month = SWITCH_MONTHS[below(sizeof SWITCH_MONTHS / sizeof *SWITCH_MONTHS)];
+        BOTH(open_unit(engine, unit, side->record));
+        for (uint32_t month = 0; month < CHANGING_MONTHS; month++) {
+            uint32_t s = below(SCHEDULES);
+            BOTH(enter_schedule(engine, unit, s, side->record));
+            for (uint32_t left = 1 + below(2 * DAY_BLOCKS); left > 0; left--) {
+                uint32_t r = below(READINGS);
+                BOTH(enter_block(engine, unit, r, side->record, side->output));
+            }
+            BOTH(close_month(engine, side->record, side->output));
+        }
     }
 }
 
@@ -528,9 +589,10 @@ static void compare_rounds(void)
 
 static uint32_t altered_input(void)
 {
-    static const uint32_t EDGES[] = {0,      1,      2,      3,         4,         12,       13,
-                                     255,    256,    5000,   5001,      400000,    400001,   8,
-                                     9,      16,     17,     200000000, 200000001, UINT32_MAX};
+    static const uint32_t EDGES[] = {0,    1,    2,    3,      4,      8,         9,
+                                     12,   13,   16,   17,     255,    256,       1200,
+                                     1201, 5000, 5001, 400000, 400001, 200000000, 200000001,
+                                     UINT32_MAX};
     return EDGES[below(sizeof EDGES / sizeof *EDGES)];
 }
 
@@ -559,31 +621,68 @@ static uint64_t altered_number(uint64_t number)
     }
 }
 
+static void alter_place(uint8_t *record, size_t place)
+{
+    set_record_number(record, place, altered_number(record_number(record, place)));
+}
+
+static void add_to_place(uint8_t *record, size_t place, uint64_t more)
+{
+    set_record_number(record, place, record_number(record, place) + more);
+}
+
+/* Two classes of one figure altered so that, in 64 bits, their sum is as before: some energy goes
+ * from one to the other, or each has 2^63 more, which no sound record holds. */
+static void alter_two_classes(uint8_t *record)
+{
+    size_t first = AT_CLASSES + below(CLASS_NUMBERS), second = first;
+    first += CLASS_NUMBERS * below(CLASSES);
+    second += CLASS_NUMBERS * below(CLASSES);
+    uint64_t there = record_number(record, first), half = (uint64_t)1 << 63;
+    uint64_t moved = below(4) == 0 ? half : below(8) == 0 ? 1 : random_number() % (there + 1);
+    add_to_place(record, first, -moved);
+    add_to_place(record, second, moved);
+}
+
+/* The same energy more in the bank of one generator and in what it injected, and, three times out
+ * of four, in one class of its bank. */
+static void add_bank(uint8_t *record)
+{
+    uint32_t g = below(generators), more = below(1000);
+    add_to_place(record, AT_INJECTED + g, more);
+    add_to_place(record, AT_BANK + g, more);
+    if (below(4) != 0)
+        add_to_place(record, AT_CLASSES + CLASS_NUMBERS * below(CLASSES) + g, more);
+}
+
+/* Closings that fit the blocks, just do not, or wrap where 1 or the blocks are added. */
+static void alter_closings(uint8_t *record)
+{
+    uint64_t most = record_number(record, AT_UNIT_BLOCKS) - record_number(record, AT_MONTH_BLOCKS);
+    const uint64_t closings[] = {0, 1, 2, 3, most, most + 1, UINT64_MAX, UINT64_MAX - 1};
+    set_record_number(record, AT_CLOSINGS, closings[below(sizeof closings / sizeof *closings)]);
+}
+
 static void alter_record(uint8_t *record)
 {
-    switch (below(8)) {
-    case 0: {
-        size_t place = below(RECORD_NUMBERS);
-        set_record_number(record, place, altered_number(record_number(record, place)));
-        break;
-    }
-    case 1: {
-        size_t place = below(RECORD_COUNTS);
-        set_record_number(record, place, altered_number(record_number(record, place)));
-        break;
-    }
-    case 2:
-        set_record_number(record, AT_UNIT_BLOCKS, MOST_UNIT_BLOCKS - below(2));
-        break;
+    switch (below(15)) {
+    case 0: alter_place(record, below(RECORD_NUMBERS)); break;
+    case 1: alter_place(record, below(RECORD_COUNTS)); break;
+    case 2: set_record_number(record, AT_UNIT_BLOCKS, MOST_UNIT_BLOCKS - below(2)); break;
     case 3:
         set_record_number(record, AT_UNIT_BLOCKS, MOST_UNIT_BLOCKS);
         set_record_number(record, AT_MONTH_BLOCKS, MOST_MONTH_BLOCKS - below(2));
         break;
-    case 4:
-        set_record_number(record, AT_MONTH_BLOCKS, below(2));
+    case 4: set_record_number(record, AT_MONTH_BLOCKS, below(2)); break;
+    case 5: alter_place(record, AT_CLASSES + below(CLASSES * CLASS_NUMBERS)); break;
+    case 6: alter_two_classes(record); break;
+    case 7: add_bank(record); break;
+    case 8: alter_closings(record); break;
+    case 9:
+        set_record_number(record, AT_SWITCH_MONTH, below(2) ? below(5) : altered_input());
         break;
-    default:
-        break;
+    case 10: set_record_number(record, AT_MONTHS_GONE, below(2)); break;
+    default: break;
     }
 }
 
@@ -603,7 +702,8 @@ static void compare_altered_call(void)
     static uint8_t record[RECORD_BYTES];
     uint32_t r = below(RECORDS), s = below(SCHEDULES), reading = below(READINGS);
     uint32_t no_list = below(2);
-    size_t record_bytes = maybe_altered_length(RECORD_BYTES);
+    size_t record_bytes =
+        below(100) == 0 ? FORMER_RECORD_BYTES : maybe_altered_length(RECORD_BYTES);
 
     memcpy(&unit, &units[r / SCHEDULES], sizeof unit);
     memcpy(record, prepared[r], RECORD_BYTES);
@@ -613,14 +713,15 @@ static void compare_altered_call(void)
 
     switch (below(4)) {
     case 0: {
-        uint32_t terms[5] = {generators, consumers, unit.rate, unit.cycle, unit.gone};
+        uint32_t terms[6] = {generators, consumers, unit.rate,
+                             unit.cycle, unit.gone, unit.switch_month};
         if (below(2))
-            terms[below(5)] = altered_input();
+            terms[below(6)] = altered_input();
         maybe_alter_input(unit.generator_list, 3 * generators);
         maybe_alter_input(unit.pair_list, 2 * pairs);
         size_t generator_bytes = maybe_altered_length(12 * generators);
         size_t pair_bytes = maybe_altered_length(8 * pairs);
-        BOTH(engine->open(terms[0], terms[1], terms[2], terms[3], terms[4],
+        BOTH(engine->open(terms[0], terms[1], terms[2], terms[3], terms[4], terms[5],
                           LIST(unit.generator_list, generator_bytes),
                           LIST(unit.pair_list, pair_bytes), LIST(side->record, record_bytes)));
         break;
@@ -693,21 +794,30 @@ static void compare_days(void)
             BOTH(compare_meters(engine, &days[d], side->output));
     }
     prepare_days(0);
-    for (uint32_t i = 0; i < ALTERED_CALLS; i++)
+    for (uint32_t i = 0; i < ALTERED_DAYS; i++)
         compare_altered_day();
+}
+
+static void compare_shape(const uint32_t shape[2], int with_replay)
+{
+    for (enum banking banking = 0; banking < BANKINGS; banking++) {
+        prepare(shape[0], shape[1], banking, &PLAIN);
+        compare_rounds();
+        for (uint32_t i = 0; i < ALTERED_CALLS; i++)
+            compare_altered_call();
+    }
+    compare_changing_units();
+    if (with_replay) {
+        compare_replay(0);
+        compare_replay(REPLAY_MONTHS / 2 + 1);
+    }
 }
 
 static void compare(int with_long_replay)
 {
     static const uint32_t SHAPES[][2] = {{1, 2}, {3, 4}, {8, 16}};
-    for (size_t shape = 0; shape < sizeof SHAPES / sizeof *SHAPES; shape++) {
-        prepare(SHAPES[shape][0], SHAPES[shape][1], &PLAIN);
-        compare_rounds();
-        for (uint32_t i = 0; i < ALTERED_CALLS; i++)
-            compare_altered_call();
-        if (shape == 0 || with_long_replay)
-            compare_replay();
-    }
+    for (size_t shape = 0; shape < sizeof SHAPES / sizeof *SHAPES; shape++)
+        compare_shape(SHAPES[shape], shape == 0 || with_long_replay);
     compare_days();
     printf("%llu calls of both engines, equal in result, record and output; by result:",
            (unsigned long long)compared_calls);
@@ -733,14 +843,14 @@ static uint32_t number(const char *text)
     return (uint32_t)strtoul(text, NULL, 10);
 }
 
-/* Prepares what the words CALL G C, or day METER, stand for; the call. */
+/* Prepares what the words CALL G C [hours], or day METER, stand for; the call. */
 static enum call prepare_call(int count, char **words, const struct engine *engine)
 {
     enum call call = count > 0 ? call_named(words[0]) : CALLS;
     if (call == DAY && count == 2 && (!strcmp(words[1], "main") || !strcmp(words[1], "check")))
         prepare_days(!strcmp(words[1], "check"));
-    else if (call < DAY && count == 3)
-        prepare(number(words[1]), number(words[2]), engine);
+    else if (call < DAY && (count == 3 || (count == 4 && !strcmp(words[3], "hours"))))
+        prepare(number(words[1]), number(words[2]), count == 4 ? BY_HOURS : BY_CYCLE, engine);
     else
         fail("unknown words; see the head of driver.c");
     return call;
@@ -763,7 +873,7 @@ int main(int argc, char **argv)
     } else if (!strcmp(command, "stack")) {
         measure_stack(prepare_call(argc - 2, argv + 2, &PLAIN));
     } else if (!strcmp(command, "replay") && argc == 4) {
-        prepare(number(argv[2]), number(argv[3]), &PLAIN);
+        prepare(number(argv[2]), number(argv[3]), BY_CYCLE, &PLAIN);
         time_replay();
     } else {
         fail("unknown command; see the head of driver.c");

@@ -13,33 +13,53 @@ enum {
     MOST_PAIRS = MOST_GENERATORS * MOST_CONSUMERS,
     MOST_MONTH_BLOCKS = 3360,
     MOST_UNIT_BLOCKS = 10000000,
-    RECORD_NUMBERS = 719,
-    RECORD_BYTES = 8 * RECORD_NUMBERS,
-    RECORD_COUNTS = 7, /* the first places of the record, before its lists; two of them: */
+    MOST_SWITCH_MONTH = 1200,
+
+    /* Places in the record, counted in numbers. */
+    RECORD_COUNTS = 7, /* the first ones, before the lists; three of them: */
+    AT_MONTHS_GONE = 4,
     AT_UNIT_BLOCKS = 5,
     AT_MONTH_BLOCKS = 6,
+    AT_INJECTED = 543, /* the first term of the generator equation, then nine more */
+    AT_BANK = AT_INJECTED + 8 * MOST_GENERATORS,
+    AT_PENDING = AT_BANK + MOST_GENERATORS,
+    AT_METERED = AT_PENDING + MOST_GENERATORS, /* and of the consumer equation, five more */
+    AT_OPEN = AT_METERED + 5 * MOST_CONSUMERS,
+    AT_SWITCH_MONTH = AT_OPEN + MOST_CONSUMERS,
+    AT_CLOSINGS,
+    AT_CLASSES, /* bank, pending and open of each class of hours */
+    CLASSES = 3,
+    CLASS_NUMBERS = 2 * MOST_GENERATORS + MOST_CONSUMERS,
+    RECORD_NUMBERS = AT_CLASSES + CLASSES * CLASS_NUMBERS,
+    RECORD_BYTES = 8 * RECORD_NUMBERS,
+    FORMER_RECORD_BYTES = 8 * AT_SWITCH_MONTH, /* before the bank by hours; no longer a record */
 
     DAY_BLOCKS = 96,
     DAY_LIST_BYTES = 4 * DAY_BLOCKS,
     DAY_OUTPUT_BYTES = 8 * 2,
 
-    MONTH_EMPTY = 13,     /* results */
-    BOTH_INCOMPLETE = 17, /* the highest */
+    NOT_SOUND = 1, /* results */
+    MONTH_EMPTY = 13,
+    BOTH_INCOMPLETE = 17,
+    WRONG_SWITCH_MONTH = 19,
+    HIGHEST_RESULT = WRONG_SWITCH_MONTH,
 };
+
+_Static_assert(RECORD_BYTES == 6536 && FORMER_RECORD_BYTES == 5752, "the sizes of the papers");
 
 #define MISSING UINT32_MAX /* in a day's list: the reading of this block is missing */
 
 enum call { OPEN, SCHEDULE, BLOCK, CLOSE, DAY, CALLS };
 
-/* 14 to 16 are refusals of the readings table, which no C call reads. */
+/* 14 to 16 are refusals of the readings table, which no C call reads; 18 is not in use. */
 static inline int is_result(uint32_t number)
 {
-    return number <= MONTH_EMPTY || number == BOTH_INCOMPLETE;
+    return number <= MONTH_EMPTY || number == BOTH_INCOMPLETE || number == WRONG_SWITCH_MONTH;
 }
 
-/* G, C, rate, cycle, months gone; the lists of generators and pairs; the record */
-typedef uint32_t open_call(uint32_t, uint32_t, uint32_t, uint32_t, uint32_t, const uint8_t *,
-                           size_t, const uint8_t *, size_t, uint8_t *, size_t);
+/* G, C, rate, cycle, months gone, switch month; the lists of generators and pairs; the record */
+typedef uint32_t open_call(uint32_t, uint32_t, uint32_t, uint32_t, uint32_t, uint32_t,
+                           const uint8_t *, size_t, const uint8_t *, size_t, uint8_t *, size_t);
 /* the record; kW; ranks */
 typedef uint32_t schedule_call(uint8_t *, size_t, const uint8_t *, size_t, const uint8_t *, size_t);
 /* the record; entry readings; exit readings; the output */

@@ -7,7 +7,8 @@
  * as document 01's readings table: a line of names, then a line of values for each block; a line `close` stands where a
  * month ends. What the record holds already is passed over, so the host may be started again on the same journal, or on
  * one that has grown. At the end it prints the equations of generators and consumers. It ends with 1 and a message where
- * a call was refused or something failed.
+ * a call was refused or something failed. A file of 5,752 bytes is a record of the former library, which this host does not
+ * take: without that file it opens the unit anew and enters the whole journal.
  *
  * What a power cut can do: after each accepted call the record is written to a new file in the same folder, that file is
  * synced and renamed over the old one, and the folder is synced. Only then does the host act on the call: goes on, or
@@ -152,7 +153,7 @@ static void open_unit(struct unit *unit)
     uint8_t generator_list[WHEELING_GENERATOR_LIST_BYTES(1)], pair_list[WHEELING_PAIR_LIST_BYTES(1, 2)];
     put_list(generator_list, generator, 3);
     put_list(pair_list, pairs, 4);
-    uint32_t number = wheeling_open(1, 2, 1000, 2, 0, generator_list, sizeof generator_list,
+    uint32_t number = wheeling_open(1, 2, 1000, 2, 0, 0, generator_list, sizeof generator_list,
                                     pair_list, sizeof pair_list, unit->record, sizeof unit->record);
     after_call(unit, number, "opening");
 }

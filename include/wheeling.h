@@ -1,7 +1,7 @@
 /* The energy account of one wheeling unit: opening, schedule, block and closing, over bytes; and, without a record, the
  * comparison of a main and a check meter's day.
  *
- * A unit has G generators (1 to 8), C consumers (1 to 16) and one record of 5,752 bytes, which the host keeps.
+ * A unit has G generators (1 to 8), C consumers (1 to 16) and one record of 6,536 bytes, which the host keeps.
  * A host opens the unit once, enters a schedule, then one block each 15 minutes, and closes each month:
  *
  *     uint8_t record[WHEELING_RECORD_BYTES];
@@ -28,6 +28,25 @@
  *   A refused call leaves every byte as it was, those of the record and of the output included.
  *   After an accepted call the record's bytes are the record after it, and every number of the output is written.
  *
+ * Banking by hours
+ *   The opening sets a switch month: the number of the first closing that banks by hours, counted from 1 at the opening; 0 is
+ *   never. Before it there is one bank for all hours, which lapses at the end of each cycle. The closing just before it lets
+ *   that bank lapse wherever the cycle stands. From then on bank, pending and open are kept apart by three classes of hours,
+ *   from the first block of a month to its closing, every closing ends with a lapse, and months gone stays 0.
+ *   The class of a block is that of its slot. A month's first block is of slot 1, the next of slot 2; after slot 96 comes
+ *   slot 1 again:
+ *     off-peak  slots 37 to 68                9 to 17 o'clock, where a month begins at midnight
+ *     peak      slots 21 to 36 and 77 to 92   5 to 9 and 19 to 23 o'clock
+ *     normal    the other slots
+ *   Only blocks that are entered count: where one is left out, the later ones of its month are one slot too early.
+ *
+ * Records of before
+ *   Version 0.1.0 of the library had records of 5,752 bytes. Such a record is refused with 1. A host cannot carry it over by
+ *   itself: the old record does not tell how many closings were done, which a record now holds, and a count that is wrong
+ *   cannot be seen. The library has no call that takes it over. A unit with an old record stays on the former library, or is
+ *   opened anew: a new opening starts all counts and totals at 0, and a host that has kept the inputs of all its calls may
+ *   make them again.
+ *
  * What a host must see to
  *   - Pointers are valid for the lengths given. A null pointer is allowed where the length is 0.
  *   - The buffers of one call do not overlap.
@@ -50,7 +69,7 @@ extern "C" {
 /* ---- What a call returns ---- */
 
 #define WHEELING_ACCEPTED 0u
-#define WHEELING_NOT_SOUND 1u       /* schedule, block, closing: the record is not sound or not 5,752 bytes long */
+#define WHEELING_NOT_SOUND 1u       /* schedule, block, closing: the record is not sound or not 6,536 bytes long */
 #define WHEELING_WRONG_SIZE 2u      /* all: a length other than stated; opening: also G outside 1 to 8 or C outside 1 to 16 */
 #define WHEELING_WRONG_KIND 3u      /* opening: a kind over 3 */
 #define WHEELING_WRONG_CAPACITY 4u  /* opening: a capacity over 400,000 kW */
@@ -64,13 +83,14 @@ extern "C" {
 #define WHEELING_UNIT_FULL 12u      /* block: the unit holds 10,000,000 blocks; no further one is accepted */
 #define WHEELING_MONTH_EMPTY 13u    /* closing: the month holds no block */
 #define WHEELING_BOTH_INCOMPLETE 17u /* day: at least one reading is missing in each of the two days */
+#define WHEELING_WRONG_SWITCH_MONTH 19u /* opening: a switch month over 1,200 */
 
 /* ---- Sizes: g and c stand for the unit's G and C ---- */
 
 #define WHEELING_MOST_GENERATORS 8u
 #define WHEELING_MOST_CONSUMERS 16u
 
-#define WHEELING_RECORD_BYTES 5752u
+#define WHEELING_RECORD_BYTES 6536u
 #define WHEELING_GENERATOR_LIST_BYTES(g) (4u * 3u * (g))
 #define WHEELING_PAIR_LIST_BYTES(g, c) (4u * 2u * (g) * (c))
 #define WHEELING_KW_LIST_BYTES(g, c) (4u * (g) * (c))
@@ -109,13 +129,17 @@ extern "C" {
  *   generators, consumers  G and C
  *   rate                   the bank's charge, 0 to 5,000 hundredths of a percent
  *   cycle, gone            months after which the bank lapses, 1 to 12; months of the first cycle gone already, below cycle
+ *   switch_month           the number of the first closing that banks by hours, counted from 1 at this opening, at most
+ *                          1,200; 0 for a unit that never does. With 1 the first month banks by hours already: gone is
+ *                          tested as always, and 0 is written
  *   generator_list         3G numbers, for each generator: kind (0 scheduled, 1 wind, 2 mini-hydel, 3 solar), installed kW,
  *                          contracted kW, each capacity 0 to 400,000
  *   pair_list              2GC numbers: the links of all pairs, 0 or 1, then the losses of all pairs, 0 to 5,000 hundredths
  *                          of a percent
- *   record                 the 5,752 bytes that are written
- * Refuses with 2 to 6; a record of another length is 2 here. */
+ *   record                 the 6,536 bytes that are written
+ * Refuses with 2 to 6 and 19; a record of another length is 2 here. */
 uint32_t wheeling_open(uint32_t generators, uint32_t consumers, uint32_t rate, uint32_t cycle, uint32_t gone,
+                       uint32_t switch_month,
                        const uint8_t *generator_list, size_t generator_list_bytes,
                        const uint8_t *pair_list, size_t pair_list_bytes,
                        uint8_t *record, size_t record_bytes);
@@ -130,7 +154,8 @@ uint32_t wheeling_schedule(uint8_t *record, size_t record_bytes,
                            const uint8_t *kw_list, size_t kw_list_bytes,
                            const uint8_t *rank_list, size_t rank_list_bytes);
 
-/* Enters the readings of one block of 15 minutes.
+/* Enters the readings of one block of 15 minutes. Where the month is kept by hours, what the block adds to pending and open
+ * is added to the places of its class too; the output is the same.
  *   record      the unit's record, changed in place
  *   entry_list  G numbers: what each generator fed in, 0 to 200,000,000 Wh
  *   exit_list   C numbers: what each consumer took, 0 to 200,000,000 Wh
@@ -143,7 +168,15 @@ uint32_t wheeling_block(uint8_t *record, size_t record_bytes,
                         uint8_t *output, size_t output_bytes);
 
 /* Closes the month: banks what is pending less the charge, draws for the consumers from it, leaves the rest to be supplied
- * by the local licensee, and lets the bank lapse at the end of a cycle.
+ * by the local licensee, and lets the bank lapse at the end of a cycle. The closing just before the switch month lets it lapse
+ * in any case, and sets months gone to 0.
+ * From the switch month on it does so by classes of hours:
+ *   - the charge is rounded up in each class, and the rest of the class's pending is banked in that class;
+ *   - consumer after consumer settles what is open of it off-peak, then normal, then peak; within each of these one linked
+ *     generator after another, in the consumer's order, gives first what it has banked of that class, then what it has banked
+ *     of peak;
+ *   - what is left of each class is supplied, all that is left in the banks lapses, and months gone stays 0.
+ * The numbers of the output, and the totals of the record, are then sums over the three classes.
  *   record  the unit's record, changed in place
  *   output  GC + 3G + 2C numbers, in Wh: drawn, GC by pair; charge, lapsed and bank, each G by generator; open before the
  *           drawing and supplied, each C by consumer
@@ -204,6 +237,17 @@ uint32_t wheeling_day(const uint8_t *main_list, size_t main_list_bytes,
 #define WHEELING_AT_CONSUMER_DRAWN(c) (5368u + 8u * (c))
 #define WHEELING_AT_SUPPLIED(c) (5496u + 8u * (c))
 #define WHEELING_AT_OPEN(c) (5624u + 8u * (c))
+
+#define WHEELING_AT_SWITCH_MONTH 5752u
+#define WHEELING_AT_CLOSINGS 5760u /* closings done since the opening */
+
+/* By class of hours k. All are 0 until the month is kept by hours; then bank, pending and open above are the sums of these. */
+#define WHEELING_OFF_PEAK 0u
+#define WHEELING_NORMAL 1u
+#define WHEELING_PEAK 2u
+#define WHEELING_AT_CLASS_BANK(k, g) (5768u + 256u * (k) + 8u * (g))
+#define WHEELING_AT_CLASS_PENDING(k, g) (5832u + 256u * (k) + 8u * (g))
+#define WHEELING_AT_CLASS_OPEN(k, c) (5896u + 256u * (k) + 8u * (c))
 
 #ifdef __cplusplus
 }

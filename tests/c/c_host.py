@@ -24,7 +24,7 @@ from second.calls import SecondUnit, block_call, close_call, open_call, schedule
 from second.engine import (ACCEPTED, CONSUMER_TERMS, GENERATOR_TERMS, RECORD_BYTES,  # noqa: E402
                            Engine, record_from_bytes)
 from second.table import (CONSUMERS, CYCLE, GENERATOR_LIST, GENERATORS, GONE, KW,  # noqa: E402
-                          PAIR_LIST, RANKS, RATE, names_line, read_line)
+                          PAIR_LIST, RANKS, RATE, SWITCH_MONTH, names_line, read_line)
 
 REPOSITORY = Path(__file__).resolve().parents[2]  # the folder of what follows
 HOST = "examples/host.c"
@@ -37,6 +37,7 @@ MEMCHECK = ("valgrind", "--quiet", "--leak-check=full", "--show-leak-kinds=all",
 CUTS = ("cut", "cut-data", "cut-names", "cut-both")
 CUT_STATUS = 99
 BLOCKS_A_DAY = 96
+FORMER_RECORD_BYTES = 5_752
 
 NAMES = names_line(GENERATORS, CONSUMERS)
 # Document 01's table and the line that it prints for it.
@@ -69,7 +70,8 @@ def build(what, *command):
 # ---- What the second engine gives ----
 
 def agreement_a():
-    return [open_call(GENERATORS, CONSUMERS, RATE, CYCLE, GONE, GENERATOR_LIST, PAIR_LIST),
+    return [open_call(GENERATORS, CONSUMERS, RATE, CYCLE, GONE, GENERATOR_LIST, PAIR_LIST,
+                      SWITCH_MONTH),
             schedule_call(KW, RANKS)]
 
 
@@ -159,13 +161,16 @@ def good_runs(host):
         good_run(name + ", resumed", command, disk, journal, day[-1])
         good_run(name + ", closed before", command, disk, journal, day[-1])
 
-    # A record that the host did not open: its own G and C hold.
-    unit = [open_call(3, 2, 777, 2, 1, (0, 900, 700, 2, 500, 640, 3, 1_200, 1_200),
-                      (1, 1, 1, 0, 1, 1, 350, 1_210, 47, 0, 905, 2_500)),
-            schedule_call((300, 400, 500, 0, 411, 733), (9, 2, 4, 1, 5, 2))]
-    journal = names_line(3, 2) + b"30011,90007,53003,61001,45007\n2,1,0,250000,5000000\nclose\n"
-    third = list(records(unit + list(journal_calls(journal, 3, 2))))
-    good_run("another agreement", [host], Disk(third[2]), journal, third[-1])
+    # A record that the host did not open: its own G and C hold, and its switch month.
+    journal = (names_line(3, 2) + 40 * b"30011,90007,53003,61001,45007\n"
+               + b"2,1,0,250000,5000000\nclose\n" + b"700,90,9000000,60,50\nclose\n")
+    for switch_month in (0, 1, 2):
+        unit = [open_call(3, 2, 777, 2, 1, (0, 900, 700, 2, 500, 640, 3, 1_200, 1_200),
+                          (1, 1, 1, 0, 1, 1, 350, 1_210, 47, 0, 905, 2_500), switch_month),
+                schedule_call((300, 400, 500, 0, 411, 733), (9, 2, 4, 1, 5, 2))]
+        third = list(records(unit + list(journal_calls(journal, 3, 2))))
+        good_run(f"another agreement, switch month {switch_month}", [host], Disk(third[2]), journal,
+                 third[-1])
 
 
 # ---- What the host refuses ----
@@ -183,6 +188,7 @@ def bad_runs(host):
     made = list(records(agreement_a() + list(journal_calls(PAPER_JOURNAL))))
     scheduled = made[1]
     for what, record in (("empty", b""), ("one byte short", made[-1][:-1]),
+                         ("of the former library", made[-1][:FORMER_RECORD_BYTES]),
                          ("one byte long", made[-1] + b"\0"), ("twice", made[-1] * 2)):
         bad_run(f"file {what}", host, record, PAPER_JOURNAL, b"not the size of a record")
     damaged = bytearray(made[-1])

@@ -13,13 +13,14 @@ import re
 import subprocess
 import sys
 import tempfile
+from itertools import product
 from pathlib import Path
 
 sys.path.insert(0, str(Path(__file__).resolve().parent.parent))
 
-from second.engine import (CHECK_METER, CONSUMER_PLACES, GENERATOR_PLACES,  # noqa: E402
-                           MAIN_METER, RECORD_BYTES, RECORD_FORM, RECORD_WORDS, Engine, Record,
-                           record_from_bytes)
+from second.engine import (CHECK_METER, CLASSES, CONSUMER_PLACES, GENERATOR_PLACES,  # noqa: E402
+                           MAIN_METER, NORMAL, OFF_PEAK, PEAK, RECORD_BYTES, RECORD_FORM,
+                           RECORD_WORDS, Engine, Record, record_from_bytes)
 
 REPOSITORY = Path(__file__).resolve().parents[2]  # the folder of what follows
 HEADER = "include/wheeling.h"
@@ -27,50 +28,63 @@ STACK = "tests/c/stack.c"
 COMPILERS = (("gcc", "c99", ".c"), ("g++", "c++98", ".cpp"), ("g++", "c++17", ".cpp"))
 STRICT = ("-O1", "-Wall", "-Wextra", "-pedantic", "-Werror", "-Iinclude")
 
-# The names of what a call returns: document 01's numbers from 0; no C call gives 14 to 16.
+# The names of what a call returns: the documents' numbers from 0; no C call gives 14 to 16 or 18.
 NUMBERS = {name: number for number, name in enumerate((
     "ACCEPTED", "NOT_SOUND", "WRONG_SIZE", "WRONG_KIND", "WRONG_CAPACITY", "WRONG_LINK",
     "WRONG_TERMS", "NOT_LINKED", "OVER_CAPACITY", "WRONG_RANK", "READING_TOO_HIGH", "MONTH_FULL",
-    "UNIT_FULL", "MONTH_EMPTY"))} | {"BOTH_INCOMPLETE": 17}
+    "UNIT_FULL", "MONTH_EMPTY"))} | {"BOTH_INCOMPLETE": 17, "WRONG_SWITCH_MONTH": 19}
 # Other macros that are a single number, and none of bytes.
 SINGLE = {"MOST_GENERATORS": Engine.MOST_GENERATORS, "MOST_CONSUMERS": Engine.MOST_CONSUMERS,
           "DAY_BLOCKS": Engine.DAY_BLOCKS, "MISSING": Engine.MISSING, "MAIN_METER": MAIN_METER,
-          "CHECK_METER": CHECK_METER}
+          "CHECK_METER": CHECK_METER, "OFF_PEAK": CLASSES.index(OFF_PEAK),
+          "NORMAL": CLASSES.index(NORMAL), "PEAK": CLASSES.index(PEAK)}
 # What the five calls return for null pointers; opening has 1 generator and 1 consumer.
-NULL_CALLS = {"open(1, 1, 0, 1, 0, NULL, 0, NULL, 0, NULL, 0)": 2,
+NULL_CALLS = {"open(1, 1, 0, 1, 0, 0, NULL, 0, NULL, 0, NULL, 0)": 2,
               "schedule(NULL, 0, NULL, 0, NULL, 0)": 1,
               "block(NULL, 0, NULL, 0, NULL, 0, NULL, 0)": 1, "close(NULL, 0, NULL, 0)": 1,
               "day(NULL, 0, NULL, 0, 0, NULL, 0)": 2}
 
+# The arguments of a macro, by letter, and how many values each takes.
+ARGUMENTS = {"k": len(CLASSES), "g": GENERATOR_PLACES, "c": CONSUMER_PLACES}
+
 # Each word of this record is its own place.
 PLACES = record_from_bytes(RECORD_FORM.pack(*range(RECORD_WORDS)))
+# The second engine has another name for this figure.
+RENAMED = {"closings": "closings_done"}
 
 
 def macros():
     """[(name without WHEELING_, its arguments)]. Every macro has a value but the include guard."""
     text = open(HEADER, encoding="utf-8").read()
-    found = re.findall(r"^#define WHEELING_(\w+)(?:\((g|c|g, c)\))? \S", text, flags=re.MULTILINE)
+    found = re.findall(r"^#define WHEELING_(\w+)(?:\(((?:k, )?(?:g|c|g, c))\))? \S", text,
+                       flags=re.MULTILINE)
     if len(found) != len(re.findall(r"^\s*#\s*define", text, flags=re.MULTILINE)) - 1:
         sys.exit("header: a macro is not understood")
     return [(name, arguments.split(", ") if arguments else []) for name, arguments in found]
 
 
-def places(arguments, name):
-    """The values that the arguments take: G and C in a size, numbers from 0 in a place."""
+def values(name, arguments):
+    """All values of k, g and c together: G and C in a size, numbers from 0 in a place."""
     first = 0 if name.startswith("AT_") else 1
-    return [range(first, first + (most if letter in arguments else 1))
-            for letter, most in (("g", GENERATOR_PLACES), ("c", CONSUMER_PLACES))]
+    return product(*(range(first, first + (most if letter in arguments else 1))
+                     for letter, most in ARGUMENTS.items()))
+
+
+def figure(name, k):
+    """The name that the second engine has for the figure of a place."""
+    figure_name = name[len("AT_"):].lower().replace("class", CLASSES[k])
+    return RENAMED.get(figure_name, figure_name)
 
 
 def program(names):
     lines = ["#include <wheeling.h>", "#include <wheeling.h>", "#include <stdio.h>",
              "int main(void)", "{"]
     for name, arguments in names:
-        for g in places(arguments, name)[0]:
-            for c in places(arguments, name)[1]:
-                given = ", ".join(str({"g": g, "c": c}[letter]) + "u" for letter in arguments)
-                call = f"WHEELING_{name}" + (f"({given})" if given else "")
-                lines.append(f'    printf("{name} {g} {c} %lu\\n", (unsigned long){call});')
+        for value in values(name, arguments):
+            numbers = dict(zip(ARGUMENTS, value))
+            given = ", ".join(f"{numbers[letter]}u" for letter in arguments)
+            call = f"WHEELING_{name}" + (f"({given})" if given else "")
+            lines.append(f'    printf("{name} {value} %lu\\n", (unsigned long){call});')
     for call in NULL_CALLS:
         lines.append(f'    printf("{call} %lu\\n", (unsigned long)wheeling_{call});')
     return "\n".join(lines + ["    return 0;", "}", ""])
@@ -89,30 +103,29 @@ def size(name, G, C):
             "DAY_OUTPUT": 8 * Engine.DAY_OUTPUT_LENGTH}[name]
 
 
-def place(name, g, c):
+def place(name, k, g, c):
     """Where the figure stands, in bytes."""
-    value = getattr(PLACES, name.lower())
+    value = getattr(PLACES, figure(name, k))
     while isinstance(value, list):
         value = value[g if len(value) == GENERATOR_PLACES else c]
     return 8 * value
 
 
-def expected(name, g, c):
+def expected(name, k, g, c):
     if name in NUMBERS:
         return NUMBERS[name]
     if name in SINGLE:
         return SINGLE[name]
     if name.startswith("AT_"):
-        return place(name[len("AT_"):], g, c)
+        return place(name, k, g, c)
     if name.startswith("MOST_"):
         g, c = Engine.MOST_GENERATORS, Engine.MOST_CONSUMERS
     return size(re.fullmatch(r"(?:MOST_)?(\w+)_BYTES", name)[1], g, c)
 
 
 def expected_lines(names):
-    lines = [f"{name} {g} {c} {expected(name, g, c)}" for name, arguments in names
-             for g in places(arguments, name)[0] for c in places(arguments, name)[1]
-             if name != "STACK_BYTES"]
+    lines = [f"{name} {value} {expected(name, *value)}" for name, arguments in names
+             for value in values(name, arguments) if name != "STACK_BYTES"]
     return lines + [f"{call} {number}" for call, number in NULL_CALLS.items()]
 
 
@@ -134,8 +147,9 @@ def main():
     os.chdir(REPOSITORY)
     names = macros()
     failed = 0
-    figures = {name[len("AT_"):].lower() for name, _ in names if name.startswith("AT_")}
-    wrong = (figures ^ set(Record.__slots__)) | ({*NUMBERS, *SINGLE} - {name for name, _ in names})
+    placed = {figure(name, k) for name, arguments in names if name.startswith("AT_")
+              for k, _, _ in values(name, arguments)}
+    wrong = (placed ^ set(Record.__slots__)) | ({*NUMBERS, *SINGLE} - {name for name, _ in names})
     if wrong:
         print(f"header: FAILED: not all are there, or too many: {wrong}")
         failed += 1

@@ -1,5 +1,6 @@
 /* The stack that each call touches, for the largest agreement: prints it, and fails where it is more than the header says.
- * The calls run on a stack of known bytes; what a call that does nothing leaves there is taken off. */
+ * Calls on a record are made for a unit that never banks by hours and for one that always does. They run on a stack of known
+ * bytes; what a call that does nothing leaves there is taken off. */
 #define _XOPEN_SOURCE 700
 #include <stdio.h>
 #include <string.h>
@@ -14,15 +15,15 @@ static uint8_t kw_list[WHEELING_MOST_KW_LIST_BYTES], rank_list[WHEELING_MOST_RAN
 static uint8_t entry_list[WHEELING_MOST_ENTRY_LIST_BYTES], exit_list[WHEELING_MOST_EXIT_LIST_BYTES];
 static uint8_t main_list[WHEELING_DAY_LIST_BYTES], check_list[WHEELING_DAY_LIST_BYTES];
 static uint8_t output[WHEELING_MOST_BLOCK_OUTPUT_BYTES];
-static uint32_t number;
+static uint32_t number, switch_month;
 static ucontext_t caller, painted;
 
 static void nothing(void) { number = WHEELING_ACCEPTED; }
 
 static void opening(void)
 {
-    number = wheeling_open(G, C, 1000, 1, 0, generator_list, sizeof generator_list, pair_list, sizeof pair_list,
-                           record, sizeof record);
+    number = wheeling_open(G, C, 1000, 1, 0, switch_month, generator_list, sizeof generator_list,
+                           pair_list, sizeof pair_list, record, sizeof record);
 }
 
 static void schedule(void)
@@ -66,7 +67,8 @@ static size_t touched(void (*call)(void))
 static int within(const char *name, void (*call)(void))
 {
     size_t empty = touched(nothing), all = touched(call);
-    printf("stack: %s touches %zu of %u bytes\n", name, all > empty ? all - empty : 0, WHEELING_STACK_BYTES);
+    printf("stack: %s%s touches %zu of %u bytes\n", name, switch_month ? " by hours" : "",
+           all > empty ? all - empty : 0, WHEELING_STACK_BYTES);
     return all > empty && all - empty <= WHEELING_STACK_BYTES;
 }
 
@@ -89,10 +91,12 @@ int main(void)
     fill(main_list, sizeof main_list, 40000);
     fill(check_list, sizeof check_list, 30000);
     kw_list[0] = 2;
-    int good = within("opening", opening);
-    good &= within("schedule", schedule);
-    good &= within("block", block);
-    good &= within("closing", closing);
-    good &= within("day", day);
+    int good = within("day", day);
+    for (switch_month = 0; switch_month <= 1; switch_month++) {
+        good &= within("opening", opening);
+        good &= within("schedule", schedule);
+        good &= within("block", block);
+        good &= within("closing", closing);
+    }
     return good ? 0 : 1;
 }

@@ -1,7 +1,8 @@
 #!/usr/bin/env python3
 """The test program: runs the library's five C calls and the second engine side by side.
 
-    compare.py LIBRARY.so [--lists N] [--months N] [--days N] [--seed S] [--seconds T] [--unshrunk]
+    compare.py LIBRARY.so [--lists N] [--months N] [--crossings N] [--days N] [--seed S]
+                          [--seconds T] [--unshrunk]
     compare.py LIBRARY.so --replay FILE
 
 Compared byte for byte after each call: the number, the record and the output; also that the inputs
@@ -31,12 +32,13 @@ from second.demand_3 import broken_by_record, idle_bank  # noqa: E402
 from second.engine import ACCEPTED, Engine, inputs_from_bytes, record_from_bytes  # noqa: E402
 
 # Of each kind of random cases.
-DEFAULTS = {"list": 2_000, "month": 200, "day": 5_000}
-UNIT_REFUSALS = range(1, 14)
+DEFAULTS = {"list": 2_000, "month": 200, "crossing": 500, "day": 5_000}
+UNIT_REFUSALS = (*range(1, 14), 19)
 DAY_NUMBERS = (ACCEPTED, 2, 17)
 NUMBERS = sorted({*UNIT_REFUSALS, *DAY_NUMBERS})
 # What must be seen, in the random cases where there are as many as in the gate, or more.
-EXPECTED = {"fixed case": NUMBERS, "list": UNIT_REFUSALS, "month": (), "day": DAY_NUMBERS}
+EXPECTED = {"fixed case": NUMBERS, "list": UNIT_REFUSALS, "month": (), "crossing": (),
+            "day": DAY_NUMBERS}
 
 
 class CallList(NamedTuple):
@@ -45,13 +47,13 @@ class CallList(NamedTuple):
     only_calls: bool  # an opened unit is called and nobody else writes its record, as in demand 3
 
 
-def broken_sentences(outcome):
-    """Sentences of demand 3 that do not hold after an accepted closing."""
-    record = record_from_bytes(outcome.record)
+def broken_sentences(before, outcome):
+    """Sentences of demand 3 that do not hold after an accepted closing of the record `before`."""
     numbers = [int.from_bytes(outcome.output[at:at + 8], "little")
                for at in range(0, len(outcome.output), 8)]
     return ["second engine: " + sentence
-            for sentence in broken_by_record(record) + idle_bank(record, numbers)]
+            for sentence in (broken_by_record(record_from_bytes(outcome.record))
+                             + idle_bank(record_from_bytes(before), numbers))]
 
 
 def run_list(library, calls, place, seen, only_calls, turn=0):
@@ -64,9 +66,10 @@ def run_list(library, calls, place, seen, only_calls, turn=0):
             return []
         place.call = at
         place.calls += call.name not in HOST_WRITES
+        before = pair.second.record
         outcome, found = pair.do(call)
         if only_calls and call.name == "close" and outcome.number == ACCEPTED:
-            found = found + broken_sentences(outcome)
+            found = found + broken_sentences(before, outcome)
         if found:
             return found
         if outcome.number is not None:
@@ -132,8 +135,8 @@ class Compare(SideBySide):
         for kind, count in DEFAULTS.items():
             parser.add_argument(f"--{kind}s", type=int, default=count, help=f"random {kind}s")
         parser.add_argument("--seconds", type=float,
-                            help="start no further list after a third of these seconds, "
-                                 "no further month after another, no further day after the last")
+                            help="start no further list after a quarter of these seconds, no "
+                                 "further month after the next, and so on for crossings and days")
 
     def load(self):
         return Library(self.path)

@@ -10,10 +10,12 @@ from harness.lent import GUARD, MOST_LENT
 from second.calls import (PATTERN, Call, SecondUnit, block_call, close_call, day_call,
                           new_record_call, open_call, packed, schedule_call, write_call)
 from second.document_cases import DOCUMENT_CASES
-from second.engine import (CONSUMER_PLACES, CONSUMER_TERMS, GENERATOR_PLACES, GENERATOR_TERMS,
-                           RECORD_BYTES, RECORD_FORM, RECORD_WORDS, Engine, record_from_bytes,
-                           record_to_bytes)
-from second.paper_cases import CASES, DAYS, REFUSAL_EXAMPLES, with_counts
+from second.engine import (CLASS_LISTS, CLASS_TERMS, CLASSES, CONSUMER_PLACES, CONSUMER_TERMS,
+                           GENERATOR_PLACES, GENERATOR_TERMS, RECORD_BYTES, RECORD_FORM,
+                           RECORD_WORDS, Engine, record_from_bytes, record_to_bytes,
+                           sums_over_classes)
+from second.paper_cases import (CASES, DAYS, HOURS, HOURS_OPENINGS, REFUSAL_EXAMPLES,
+                                REFUSED_BETWEEN, with_counts)
 
 KW_LIMIT = 400_000
 LOSS_LIMIT = 5_000
@@ -22,6 +24,12 @@ MONTH_LIMIT = 3_360
 UNIT_LIMIT = 10_000_000
 BLOCKS = Engine.DAY_BLOCKS
 MISSING = Engine.MISSING
+SLOTS = Engine.SLOTS
+SWITCH_LIMIT = 1_200
+FORMER_RECORD_BYTES = 5_752  # of document 01, before F-7
+
+# In the place of each figure the word of the record that holds it.
+WORD_OF = record_from_bytes(RECORD_FORM.pack(*range(RECORD_WORDS)))
 
 
 def fed(calls):
@@ -40,13 +48,14 @@ def after(calls):
 
 # ---- Agreements ----
 
-def simple_unit(G, C, kinds=(1,), cycle=2, gone=0, rate=1_000):
+def simple_unit(G, C, kinds=(1,), cycle=2, gone=0, rate=1_000, switch_month=0):
     """Every pair linked, capacities that allow 1,000 kW for each consumer."""
     generator_list = []
     for g in range(G):
         generator_list += (kinds[g % len(kinds)], 1_000 * C + g, 1_000 * C + 3)
     losses = [(97 * (g + 1) * (c + 2)) % 1_500 for g in range(G) for c in range(C)]
-    return open_call(G, C, rate, cycle, gone, generator_list, [1] * (G * C) + losses)
+    return open_call(G, C, rate, cycle, gone, generator_list, [1] * (G * C) + losses,
+                     switch_month)
 
 
 def simple_schedule(G, C):
@@ -96,17 +105,24 @@ def order_case(ranks_by_generator, kinds):
     return calls
 
 
-def orders():
-    kinds = (1, 0, 3, 2)
-    yield "five, falling", order_case([[5], [4], [3], [2], [1]], kinds)
-    yield "five, mixed", order_case([[3, 200], [7, 9], [3, 1], [1, 255], [2, 9]], kinds)
-    yield "five deemed, ties", order_case([[2], [1], [2], [1], [1]], (3,))
-    yield "eight, mixed", order_case(
+EVERY_KIND = (1, 0, 3, 2)
+# Ranks by generator, then consumer; kinds.
+ORDERS = {
+    "five, falling": ([[5], [4], [3], [2], [1]], EVERY_KIND),
+    "five, mixed": ([[3, 200], [7, 9], [3, 1], [1, 255], [2, 9]], EVERY_KIND),
+    "five deemed, ties": ([[2], [1], [2], [1], [1]], (3,)),
+    "eight, mixed": (
         [[4, 8, 255], [1, 7, 254], [129, 6, 1], [2, 5, 128], [4, 4, 127], [255, 3, 1], [3, 2, 2],
-         [5, 1, 255]], kinds)
-    yield "eight deemed, equal but for the last", order_case([[9]] * 7 + [[8]], (1, 2, 3))
-    yield "eight of kind 0, ranks of one remainder", order_case(
-        [[253], [5], [249], [9], [17], [13], [1], [257 - 4]], (0,))
+         [5, 1, 255]], EVERY_KIND),
+    "eight deemed, equal but for the last": ([[9]] * 7 + [[8]], (1, 2, 3)),
+    "eight of kind 0, ranks of one remainder": (
+        [[253], [5], [249], [9], [17], [13], [1], [257 - 4]], (0,)),
+}
+
+
+def orders():
+    for name, (ranks, kinds) in ORDERS.items():
+        yield name, order_case(ranks, kinds)
 
 
 def cycles():
@@ -165,8 +181,8 @@ def limits():
     for G, C in ((0, 1), (9, 1), (1, 0), (1, 17), (0, 0), (2**32 - 1, 1), (1, 2**32 - 1),
                  (2**31, 2**31), (2**16, 2**16), (256 + 1, 1), (1, 256 + 1)):
         yield f"opening of {G} x {C}", [
-            Call("open", (G, C, 0, 1, 0), (packed((0,) * (3 * min(G, 9))),
-                                           packed((0,) * (2 * min(G, 9) * min(C, 17)))))]
+            Call("open", (G, C, 0, 1, 0, 0), (packed((0,) * (3 * min(G, 9))),
+                                              packed((0,) * (2 * min(G, 9) * min(C, 17)))))]
 
     two = open_call(1, 2, 0, 1, 0, (0, 800, 1_000), (1, 1, 0, 0))
     installed_lower = [two] + [schedule_call(kw, (1, 255)) for kw in (
@@ -213,7 +229,7 @@ def every_mixture(faults):
 
 def mixed_refusals():
     """All mixtures of the faults that a call can have at once."""
-    for mixture in every_mixture((2, 3, 4, 5, 6)):
+    for mixture in every_mixture((2, 3, 4, 5, 6, 19)):
         for last in (False, True):  # the fault in the first or in the last place of its list
             generator_list = [1, 100, 100] * 2
             pair_list = [1] * 4 + [0] * 4
@@ -223,7 +239,9 @@ def mixed_refusals():
                 generator_list[5 if last else 1] = KW_LIMIT + 1
             if 5 in mixture:
                 pair_list[7 if last else 0] = LOSS_LIMIT + 1
-            call = open_call(2, 2, 5_001 if 6 in mixture else 0, 1, 0, generator_list, pair_list)
+            switch_month = (2**32 - 1 if last else SWITCH_LIMIT + 1) if 19 in mixture else 1
+            call = open_call(2, 2, 5_001 if 6 in mixture else 0, 1, 0, generator_list, pair_list,
+                             switch_month)
             if 2 in mixture:
                 call = call._replace(record_bytes=RECORD_BYTES + 8 * (1 if last else -1))
             yield f"opening with faults {mixture}", [simple_unit(1, 1), call, close_call(1, 1)]
@@ -299,7 +317,8 @@ def lengths():
     unit = [simple_unit(G, C), simple_schedule(G, C), block_call((50_000, 40_000), (1, 2, 3_000))]
     for call in (unit[0], unit[1], unit[2], close_call(G, C)):
         calls = [*unit, *other_lengths(call)]
-        calls += [call._replace(record_bytes=length) for length in lengths_around(RECORD_BYTES)]
+        calls += [call._replace(record_bytes=length)
+                  for length in (*lengths_around(RECORD_BYTES), FORMER_RECORD_BYTES)]
         calls.append(call._replace(record_bytes=None))
         calls.append(call._replace(
             record_bytes=None, lists=(None,) * len(call.lists),
@@ -311,9 +330,9 @@ def lengths():
         block_call((1, 2), (3, 4), size=(G, C)),
         Call("schedule", lists=(packed((1,) * 7), packed((1,) * 5))),
         Call("schedule", lists=(packed((1,) * 12), b"")),
-        Call("open", (1, 1, 0, 1, 0), (packed((1, 0, 0, 1)), packed((0,)))),
-        Call("open", (2, 1, 0, 1, 0), (packed((1, 0, 0)), packed((1, 0, 0, 1, 1, 0, 0)))),
-        Call("open", (1, 2, 0, 1, 0), (packed((1, 0, 0) * 2), packed((1, 1, 0, 0))))]
+        Call("open", (1, 1, 0, 1, 0, 0), (packed((1, 0, 0, 1)), packed((0,)))),
+        Call("open", (2, 1, 0, 1, 0, 0), (packed((1, 0, 0)), packed((1, 0, 0, 1, 1, 0, 0)))),
+        Call("open", (1, 2, 0, 1, 0, 0), (packed((1, 0, 0) * 2), packed((1, 1, 0, 0))))]
     yield "lengths of another agreement", unit + [
         simple_unit(3, 2), simple_schedule(2, 2), block_call((1, 2), (3, 4, 5)),
         close_call(2, 3), simple_schedule(3, 2), block_call((1, 2, 3), (4, 5)), close_call(2, 3),
@@ -507,9 +526,9 @@ def unsound_records():
 
 
 def each_word_damaged():
-    """Each word of two sound records in turn: one more, one less, wide and widest."""
-    for size in ((3, 2), (8, 16)):
-        record = record_to_bytes(used_record(*size))
+    """Each word of four sound records in turn: one more, one less, wide and widest."""
+    for made, size in product((used_record, hours_record), ((3, 2), (8, 16))):
+        record = record_to_bytes(made(*size))
         words = RECORD_FORM.unpack(record)
         calls_in_turn = calls_on(*size)
         for first in range(0, RECORD_WORDS, 100):
@@ -524,7 +543,8 @@ def each_word_damaged():
                     calls += [write_call(place, wrong), call]
                     # An accepted call has changed more than the damaged word.
                     calls.append(new_record_call(record) if turn < 2 else write_call(place, value))
-            yield f"words from {first} of {size[0]} x {size[1]} damaged", calls
+            by_hours = " by hours" if made is hours_record else ""
+            yield f"words from {first} of {size[0]} x {size[1]}{by_hours} damaged", calls
 
 
 def unreached_records():
@@ -637,6 +657,405 @@ def smaller_things():
         schedule_call((20, 20, 0, 40), (2, 2, 1, 1)), block_call((8_000, 3_000), (0, 0)),
         block_call((0, 0), (5_000, 7_000)), close_call(2, 2),
         block_call((8_000, 3_000), (0, 0)), block_call((0, 0), (1_000, 7_000)), close_call(2, 2)]
+
+
+# ---- The bank by hours (F-7) ----
+
+def balanced(record):
+    """The record with the old places of bank, pending and open as sums of their classes, and
+    injected and metered as sums of their terms."""
+    for term, names in CLASS_TERMS.items():
+        setattr(record, term, sums_over_classes(getattr(record, name) for name in names))
+    for first, *others in (GENERATOR_TERMS, CONSUMER_TERMS):
+        setattr(record, first, [sum(amounts) for amounts in
+                                zip(*(getattr(record, other) for other in others))])
+    return record
+
+
+def with_classes(record, amount):
+    """Each class place of the agreement holds amount(term, class from 0, place)."""
+    sizes = {"bank": record.generators, "pending": record.generators, "open": record.consumers}
+    for term, names in CLASS_TERMS.items():
+        for class_number, name in enumerate(names):
+            places = sizes[term]
+            getattr(record, name)[:places] = [amount(term, class_number, place)
+                                              for place in range(places)]
+    return balanced(record)
+
+
+def some_energy(term, class_number, place):
+    """No two places alike; what is banked is now more and now less than what is open."""
+    return {"bank": 1_009, "pending": 2_003, "open": 5_011}[term] * (
+        1 + (class_number + place) % 3) + 13 * class_number + place
+
+
+def hours_record(G, C, switch_month=1, closings_done=4, month_blocks=40, **terms):
+    """A sound record under the new rules that no calls lead to: all class places in use, the banks
+    too, which every closing leaves at 0."""
+    record = after([simple_unit(G, C, switch_month=switch_month, **{"kinds": EVERY_KIND, **terms}),
+                    simple_schedule(G, C)])
+    record.closings_done, record.month_blocks = closings_done, month_blocks
+    record.unit_blocks = closings_done + month_blocks + 7
+    record.gone = 0
+    return with_classes(record, some_energy)
+
+
+def before_the_switch(G, C, switch_month, closings_done):
+    """A sound record under the old rules, if the switch month is after the next closing."""
+    record = used_record(G, C)
+    record.unit_blocks += closings_done
+    record.switch_month, record.closings_done = switch_month, closings_done
+    return record
+
+
+def lent(record):
+    return new_record_call(record_to_bytes(record))
+
+
+def hours_blocks(G, C, count, month=0):
+    """Blocks that leave now some energy over and now some open."""
+    return [block_call([(30_011 + 97 * g) * (1 + (block + month) % 5) * (block % 3 > 0)
+                        for g in range(G)],
+                       [(17_001 + 53 * c) * (1 + (2 * block + month) % 4) * (block % 3 < 2)
+                        for c in range(C)]) for block in range(count)]
+
+
+def months_by_hours(G, C, switch_month, months, blocks, **terms):
+    """A unit over its switch month, by calls only."""
+    calls = [simple_unit(G, C, switch_month=switch_month, **{"kinds": (1, 0), **terms}),
+             simple_schedule(G, C)]
+    for month in range(months):
+        calls += [*hours_blocks(G, C, blocks, month), close_call(G, C)]
+    return calls
+
+
+def paper_hours():
+    for what, (calls, _) in HOURS.items():
+        yield f"F-7, {what}", calls
+    for what, (call, _) in HOURS_OPENINGS.items():
+        yield f"F-7, {what}", [call, close_call(1, 1)]
+    yield "F-7, refused closings between", REFUSED_BETWEEN
+
+
+def switches():
+    """The change-over, by calls only. 40 blocks are of all three classes."""
+    for switch_month in (0, 1, 2, 3):
+        for cycle, gone in ((1, 0), (2, 1), (3, 0), (12, 11), (12, 5)):
+            yield f"switch month {switch_month}, cycle {cycle}, gone {gone}", months_by_hours(
+                2, 2, switch_month, switch_month + 2, 40, cycle=cycle, gone=gone)
+    for switch_month in (1, 2, 3):
+        calls = [simple_unit(2, 1, kinds=(1, 3), cycle=3, switch_month=switch_month),
+                 simple_schedule(2, 1)]
+        for month in range(switch_month + 1):
+            # Refused: no block yet, a wrong length, a reading over the limit, twice closed.
+            calls += [close_call(2, 1), *hours_blocks(2, 1, 24, month), close_call(1, 2),
+                      block_call((READING_LIMIT + 1, 0), (0,)), close_call(2, 1), close_call(2, 1),
+                      close_call(2, 1)]
+        yield f"refused calls over switch month {switch_month}", calls
+    # The order that stands at the closing draws, whatever stood in the blocks.
+    calls = [open_call(3, 2, 500, 4, 1, (1, 900, 900, 2, 900, 900, 3, 900, 900),
+                       (1, 1, 1, 0, 1, 1) + (0, 10, 20, 30, 40, 50), switch_month=2)]
+    for month in range(4):
+        for step in range(8):
+            calls += [schedule_call((10 + step, 20, 30, 0, 7 * month, 60 - step),
+                                    [1 + (3 * step + 5 * pair + month) % 4 for pair in range(6)]),
+                      *hours_blocks(3, 2, 6, month + step)]
+        calls += [schedule_call((0,) * 6, (3, 1, 2, 9, 1, 2) if month % 2 else (1, 3, 2, 1, 2, 1)),
+                  close_call(3, 2)]
+    yield "schedules changed over switch month 2", calls
+    yield "opening over a unit by hours", [
+        *months_by_hours(2, 2, 1, 1, 30), simple_unit(2, 2), *hours_blocks(2, 2, 25),
+        close_call(2, 2), simple_unit(1, 1, cycle=12, gone=11, switch_month=1),
+        *hours_blocks(1, 1, 25), close_call(1, 1)]
+    for switch_month in (0, 1, 2, 3, SWITCH_LIMIT - 1, SWITCH_LIMIT, SWITCH_LIMIT + 1,
+                         256 + 1, 2**16 + 1, 2**31, 2**32 - 1):
+        for cycle, gone in ((12, 11), (12, 12), (1, 0), (2, 2**32 - 1)):
+            yield f"opening, switch month {switch_month:,}, gone {gone:,} of {cycle}", [
+                simple_unit(1, 2, cycle=cycle, gone=gone, switch_month=switch_month),
+                *hours_blocks(1, 2, 2), close_call(1, 2)]
+
+
+def slots():
+    """A block after each count of month blocks of two days, and at the edges of every day of the
+    longest month."""
+    unit = [simple_unit(1, 2, switch_month=1), schedule_call((10, 0), (1, 1))]
+    days = range(MONTH_LIMIT // SLOTS)
+    edges = (0, 19, 20, 35, 36, 67, 68, 75, 76, 91, 92, 95)
+
+    def block_at(month_blocks):
+        return [with_counts(unit, month_blocks, 3 * month_blocks + 5), block_call((9,), (0, 7))]
+
+    for day, edge in product((0, 1, days[-1]), edges):
+        yield f"slot {edge + 1} of day {day + 1} of a month", block_at(SLOTS * day + edge)
+    for what, months in (
+            ("each block of two days", range(2 * SLOTS)),
+            ("the edges of every day", [SLOTS * day + edge for day in days for edge in edges])):
+        yield f"slots, {what}", [call for month_blocks in months for call in block_at(month_blocks)]
+
+
+def long_months():
+    for blocks in (SLOTS, SLOTS + 1):
+        yield f"months of {blocks} blocks over switch month 2", months_by_hours(
+            2, 2, 2, 3, blocks, cycle=5)
+    yield f"months of {MONTH_LIMIT:,} blocks over switch month 2", months_by_hours(
+        1, 1, 2, 2, MONTH_LIMIT, cycle=5) + [block_call((5,), (0,))]
+    # By calls only: 1,199 closings under the old rules and three under the new ones.
+    yield f"switch month {SWITCH_LIMIT:,} by calls", months_by_hours(
+        1, 1, SWITCH_LIMIT, SWITCH_LIMIT + 2, 1, kinds=(1,), cycle=7)
+
+
+def hours_orders():
+    """As the orders above, by records: in each class the open energy rises, so each generator in
+    turn is the last one that gives, of its class or of peak."""
+    for name, (ranks, kinds) in ORDERS.items():
+        G, C = len(ranks), len(ranks[0])
+        unit = [simple_unit(G, C, kinds=kinds, switch_month=1),
+                schedule_call([1] * (G * C), [rank for row in ranks for rank in row])]
+        calls = []
+        for step in range(2 * G + 4):
+            record = after(unit)
+            record.unit_blocks, record.month_blocks = 100, 90
+            calls += [lent(with_classes(record, lambda term, class_number, place: {
+                "bank": (700 + 100 * place) * (1 + (class_number + place) % 2),
+                "pending": (300 + 10 * place) * ((class_number + place) % 3),
+                "open": 600 * step * (1 + (class_number + step) % 3) + 7 * place}[term])),
+                close_call(G, C)]
+        yield f"{name}, by hours", calls
+
+
+def hours_sizes():
+    for G in range(1, GENERATOR_PLACES + 1):
+        for C in range(1, CONSUMER_PLACES + 1):
+            yield f"size {G} x {C} by hours", [
+                lent(hours_record(G, C)), *hours_blocks(G, C, 1), close_call(G, C),
+                *hours_blocks(G, C, 2), close_call(G, C)]
+
+
+def hours_records():
+    """Sound records under the new rules that no list of calls leads to."""
+    G, C = 3, 2
+    again = [*hours_blocks(G, C, 3), close_call(G, C), *hours_blocks(G, C, 2), close_call(G, C)]
+    yield "class banks not 0 at a closing", [lent(hours_record(G, C)), close_call(G, C), *again]
+    for term in CLASS_TERMS:
+        for class_number, hours in enumerate(CLASSES):
+            record = with_classes(hours_record(G, C), lambda of, number, place: some_energy(
+                of, number, place) * ((of, number) == (term, class_number)))
+            yield f"by hours, all in {hours} {term}", [lent(record), *again]
+    yield "kind 0 with class bank and pending", [
+        lent(hours_record(G, C, kinds=(0,))), close_call(G, C), *again]
+    record = hours_record(G, C)
+    for g, c in ((0, 1), (1, 0), (2, 0)):
+        record.link[g][c] = record.kw[g][c] = 0
+    yield "links cut under class banks", [lent(record), close_call(G, C), *again]
+    # A watt-hour moved from class to class leaves the sums.
+    calls = []
+    for term, names in CLASS_TERMS.items():
+        for from_name, to_name in ((0, 1), (1, 2), (2, 0)):
+            record = hours_record(G, C)
+            getattr(record, names[from_name])[1] -= 1
+            getattr(record, names[to_name])[1] += 1
+            calls += [lent(record), simple_schedule(G, C), close_call(G, C)]
+    yield "a watt-hour moved from class to class", calls
+    for switch_month, closings_done in (
+            (1, 0), (1, 1_199), (1, 1_200), (1, 9_000_000), (2, 1), (3, 2), (3, 3), (1_200, 1_199),
+            (1_200, 1_200), (1_200, 9_999_000), (1_199, 1_198), (257, 256), (257, 512)):
+        record = hours_record(G, C, switch_month, closings_done)
+        yield f"by hours, switch month {switch_month:,}, {closings_done:,} closings done", [
+            lent(record), *hours_blocks(G, C, 2), close_call(G, C), *again]
+    # The same before the switch, with bank, pending and open but no class places.
+    for switch_month, closings_done in (
+            (0, 0), (0, 1), (0, 1_199), (0, 9_999_000), (2, 0), (3, 0), (3, 1), (1_200, 0),
+            (1_200, 1_197), (1_200, 1_198), (257, 255), (258, 0)):
+        record = before_the_switch(G, C, switch_month, closings_done)
+        yield (f"before the switch, switch month {switch_month:,}, "
+               f"{closings_done:,} closings done"), [
+            lent(record), *hours_blocks(G, C, 2), close_call(G, C), *again]
+
+    # As many closings as blocks allow, and the oldest unit with all in one class list.
+    record = hours_record(G, C)
+    record.closings_done, record.month_blocks, record.unit_blocks = 60, 40, 100
+    yield "a closing for every other block", [lent(record), close_call(G, C), *again]
+    G, C = GENERATOR_PLACES, CONSUMER_PLACES
+    everywhere = block_call((READING_LIMIT,) * G, (READING_LIMIT,) * C)
+    for class_number, hours in enumerate(CLASSES):
+        for term in ("bank", "pending"):
+            for blocks in (UNIT_LIMIT - 1, UNIT_LIMIT):
+                record = hours_record(G, C, 1_200, 1_199, month_blocks=MONTH_LIMIT - 1, rate=4_999)
+                record.unit_blocks = blocks
+                most = READING_LIMIT * blocks
+                yield f"largest unit by hours at block {blocks:,}, all in {hours} {term}", [
+                    lent(with_classes(record, lambda of, number, place: most * (
+                        of in (term, "open") and number == class_number))),
+                    everywhere, close_call(G, C), everywhere, close_call(G, C)]
+    record = hours_record(G, C, 1, UNIT_LIMIT - MONTH_LIMIT, month_blocks=MONTH_LIMIT, rate=3_333)
+    record.unit_blocks = UNIT_LIMIT
+    part = READING_LIMIT * UNIT_LIMIT // 6
+    yield "largest unit by hours, some in every class place", [
+        lent(with_classes(record, lambda term, number, place: part - 1_000 * number - place)),
+        close_call(G, C), close_call(G, C), everywhere, simple_schedule(G, C)]
+
+
+def one_by_one(record, places, calls):
+    """The word at each of the places is changed by itself and put back; a call in turn sees it."""
+    words = RECORD_FORM.unpack(record_to_bytes(record))
+    made = [lent(record)]
+    for turn, (place, change) in enumerate(places):
+        made += [write_call(place, words[place] + change), calls[turn % len(calls)],
+                 write_call(place, words[place])]
+    return made
+
+
+def class_words(*names):
+    return [place for name in names or CLASS_LISTS for place in getattr(WORD_OF, name)]
+
+
+def unsound_by_hours():
+    """Records that break one clause of F-7's soundness and no other; sound ones at its edges."""
+    G, C = 3, 2
+    over = 2**32
+
+    def changed(record, **figures):
+        for name, value in figures.items():
+            setattr(record, name, value)
+        return [lent(record), *calls_on(G, C)]
+
+    # The switch month, under either rules.
+    for shown, switch_month in ((f"{SWITCH_LIMIT:,}", SWITCH_LIMIT),
+                                (f"{SWITCH_LIMIT + 1:,}", SWITCH_LIMIT + 1), ("2^32", over),
+                                ("2^32 + 1", over + 1), ("2^32 + 3", over + 3), ("2^63", 2**63),
+                                ("2^64 - 1", 2**64 - 1)):
+        yield f"record with switch month {shown}", changed(
+            before_the_switch(G, C, 0, 0), switch_month=switch_month)
+        yield f"record by hours with switch month {shown}", changed(
+            hours_record(G, C, 1, 5_000), switch_month=switch_month)
+    yield "record by hours with switch month 1,201 and 1,200 closings done", changed(
+        hours_record(G, C, 1, SWITCH_LIMIT), switch_month=SWITCH_LIMIT + 1)
+
+    # Closings done: month blocks are 2 before the switch and 40 by hours.
+    for what, record in (("", before_the_switch(G, C, 0, 0)), (" by hours", hours_record(G, C))):
+        month_blocks, unit_blocks = record.month_blocks, record.unit_blocks
+        room = unit_blocks - month_blocks
+        for shown, closings_done in (
+                ("as many closings done as fit", room), ("one closing done too many", room + 1),
+                ("closings done as many as unit blocks", unit_blocks),
+                ("closings done 2^32", over), ("closings done 2^32 more than fit", over + room),
+                ("closings done 2^63", 2**63), ("closings done 2^64 - 1", 2**64 - 1),
+                ("closings done 2^64 - 2", 2**64 - 2), ("closings done 2^64 - 3", 2**64 - 3),
+                ("closings done that wrap to 0", 2**64 - month_blocks)):
+            yield f"record{what}, {shown}", changed(record, closings_done=closings_done)
+        record.month_blocks = 0
+        for shown, closings_done in (
+                ("as many closings done as fit", unit_blocks),
+                ("one closing done too many", unit_blocks + 1),
+                ("closings done 2^64 - 1", 2**64 - 1)):
+            yield f"record{what}, month empty, {shown}", changed(
+                record, closings_done=closings_done)
+    # Closings done whose next ones wrap to 0, with nothing in the classes.
+    for switch_month, less in product((1, 2, 3), (1, 2, 3)):
+        yield f"switch month {switch_month}, closings done 2^64 - {less}", changed(
+            after([simple_unit(G, C, switch_month=switch_month), simple_schedule(G, C),
+                   block_call((0,) * G, (0,) * C)]), closings_done=2**64 - less)
+
+    # Class places before the switch, with the old places as their sums.
+    for name in CLASS_LISTS:
+        record = with_classes(before_the_switch(G, C, 9, 7), lambda term, number, place: 0)
+        getattr(record, name)[:2] = [5, 6]
+        yield f"classes that add up before the switch, {name}", changed(balanced(record))
+    for record in (hours_record(G, C, switch_month=6, closings_done=4),
+                   hours_record(G, C, switch_month=0), hours_record(G, C, switch_month=1_200)):
+        yield (f"all class places in use, switch month {record.switch_month}, "
+               f"{record.closings_done} closings done"), changed(record)
+
+    # Months gone from the switch on, and just before it, where it may be any.
+    for gone, cycle in ((1, 2), (1, 12), (11, 12)):
+        yield f"record by hours with months gone {gone} of {cycle}", changed(
+            hours_record(G, C, cycle=cycle), gone=gone)
+        yield f"months gone {gone} of {cycle} just before the switch", changed(
+            before_the_switch(G, C, 6, 4), gone=gone, cycle=cycle)
+        yield f"months gone {gone} of {cycle} at the switch, nothing banked", changed(
+            after([simple_unit(G, C, cycle=cycle, switch_month=6)]), gone=gone, closings_done=5,
+            unit_blocks=9)
+
+    # What was banked before the switch belongs to no class.
+    for switch_month in (1, 3):
+        record = used_record(G, C)  # two closings done
+        record.switch_month, record.gone = switch_month, 0
+        yield f"bank, pending and open without classes, switch month {switch_month}", changed(
+            record)
+    for term in CLASS_TERMS:
+        record = with_classes(hours_record(G, C), lambda of, number, place: 0)
+        getattr(record, term)[1] = 1
+        record.injected[1], record.metered[1] = record.bank[1] + record.pending[1], record.open[1]
+        yield f"a watt-hour of {term} of no class", changed(record)
+
+    # Classes that add up modulo 2^64 only, within the agreement and beyond it.
+    wrapping = ((2**63, 2**63, 0), (2**64 - 1, 1, 0), (7, 2**64 - 7, 0),
+                (2**64 - 1, 2**64 - 1, 2))
+    for (term, names), (where, place) in product(
+            CLASS_TERMS.items(), (("", 1), (" beyond the agreement", 5))):
+        for which, (first, second, more) in enumerate(wrapping, start=1):
+            calls = []
+            for turn, call in enumerate(calls_on(G, C)):
+                record = hours_record(G, C)
+                values = (first, second, getattr(record, term)[place] + more)
+                for name, value in zip(names, values[turn:] + values[:turn]):
+                    getattr(record, name)[place] = value
+                calls += [lent(record), call]
+            yield f"classes of {term} that add up modulo 2^64 only{where}, {which}", calls
+
+    # A host that writes a switch month into a unit in use.
+    for switch_month in (1, 2, 3, 4, 5):
+        yield f"switch month {switch_month} written after three closings", [
+            simple_unit(G, C, cycle=12), simple_schedule(G, C),
+            *(call for month in range(3) for call in (*hours_blocks(G, C, 2, month),
+                                                      close_call(G, C))),
+            write_call(WORD_OF.switch_month, switch_month), *hours_blocks(G, C, 2),
+            close_call(G, C), *hours_blocks(G, C, 2), close_call(G, C)]
+
+
+def each_class_place():
+    """Every class place by itself, and every old place whose classes no longer add up to it."""
+    for size in ((3, 2), (GENERATOR_PLACES, CONSUMER_PLACES)):
+        for switch_month, closings_done in ((0, 0), (0, 5), (2, 0), (9, 7)):
+            record = before_the_switch(*size, switch_month, closings_done)
+            yield (f"each class place before the switch, {size[0]} x {size[1]}, "
+                   f"switch month {switch_month}, {closings_done} closings done"), one_by_one(
+                record, [(place, 1) for place in class_words()], calls_on(*size))
+
+    # The equation is kept where an old place is changed.
+    for size in ((3, 2), (GENERATOR_PLACES, CONSUMER_PLACES)):
+        record = hours_record(*size)
+        sizes = {"bank": size[0], "pending": size[0], "open": size[1]}
+        for change, what in ((1, "more"), (-1, "less")):
+            places = [place for name in CLASS_LISTS
+                      for place in class_words(name)[:sizes[name.rsplit("_", 1)[1]]]]
+            yield f"a watt-hour {what} in each class place of {size[0]} x {size[1]}", one_by_one(
+                record, [(place, change) for place in places], calls_on(*size))
+            calls = []
+            for term, whole in (("bank", "injected"), ("pending", "injected"), ("open", "metered")):
+                for place in range(sizes[term]):
+                    one = hours_record(*size)
+                    for name in (term, whole):
+                        getattr(one, name)[place] += change
+                    calls += [lent(one), calls_on(*size)[place % 3]]
+            yield f"a watt-hour {what} in each old place of {size[0]} x {size[1]}", calls
+    for size in ((3, 2), (7, 15)):
+        places = [place for name, places in CLASS_LISTS.items()
+                  for place in class_words(name)[size[places == CONSUMER_PLACES]:]]
+        for shown, change in (("1", 1), ("2^63", 2**63)):
+            yield f"{shown} in each class place beyond {size[0]} x {size[1]}", one_by_one(
+                hours_record(*size), [(place, change) for place in places], calls_on(*size))
+
+
+def short_records():
+    """A record of the former length, and lengths beside the right one, in each call."""
+    for length in (FORMER_RECORD_BYTES, RECORD_BYTES - 8, RECORD_BYTES - 1, RECORD_BYTES + 1,
+                   RECORD_BYTES + 8):
+        calls = [simple_unit(2, 2, switch_month=1), simple_schedule(2, 2)]
+        for call in (simple_unit(2, 2, switch_month=1), *hours_blocks(2, 2, 1), close_call(2, 2),
+                     simple_schedule(2, 2)):
+            calls += [call._replace(record_bytes=length), call]
+        yield f"record of {length:,} bytes", calls
 
 
 # ---- A day of a main and a check meter ----
@@ -808,16 +1227,26 @@ def fixed_cases():
     yield "3 x 2 over four months", three_by_two()
     yield from orders()
     yield from cycles()
+    yield from paper_hours()
+    yield from switches()
+    yield from hours_orders()
     yield from every_size()
     yield from limits()
     yield from mixed_refusals()
     yield from lengths()
     yield from unsound_records()
     yield from unreached_records()
+    yield from hours_records()
+    yield from unsound_by_hours()
+    yield from each_class_place()
+    yield from short_records()
     yield from smaller_things()
     yield from days()
     yield from DOCUMENT_CASES.items()
+    yield from hours_sizes()
+    yield from slots()
     yield from full_months()
+    yield from long_months()
     yield from each_word_damaged()
     # Last, since they are many and a wrong rule shows before.
     yield from missing_in_unequal_blocks()

@@ -6,8 +6,8 @@ import ctypes
 from harness.lent import Lent, c_call, differing, shift_in, written_around
 from second.calls import (HOST_WRITES, INPUT_NAMES, PATTERN, Outcome, SecondUnit, lent_record,
                           written)
-from second.engine import (CONSUMER_PLACES, CONSUMER_TERMS, GENERATOR_PLACES, GENERATOR_TERMS,
-                           PAIR_LISTS, RECORD_BYTES, Engine)
+from second.engine import (CLASS_PLACES, CLASSES, CONSUMER_PLACES, CONSUMER_TERMS,
+                           GENERATOR_PLACES, GENERATOR_TERMS, PAIR_LISTS, RECORD_BYTES, Engine)
 
 
 class Library:
@@ -16,7 +16,7 @@ class Library:
     def __init__(self, path):
         loaded = ctypes.CDLL(path)
         self.calls = {name: c_call(loaded, "wheeling_" + name, *counts)
-                      for name, *counts in (("open", 5, 3), ("schedule", 0, 3), ("block", 0, 4),
+                      for name, *counts in (("open", 6, 3), ("schedule", 0, 3), ("block", 0, 4),
                                             ("close", 0, 2), ("day", 0, 2, 1, 1))}
         self.lent = {name: Lent() for name in ("record", "output", "first list", "second list")}
 
@@ -81,6 +81,11 @@ def word_names():
         names += [f"{name} of generator {g}" for g in range(1, GENERATOR_PLACES + 1)]
     for name in CONSUMER_TERMS:
         names += [f"{name} of consumer {c}" for c in range(1, CONSUMER_PLACES + 1)]
+    names += ["switch month", "closings done"]
+    for hours in CLASSES:
+        for name, places in CLASS_PLACES.items():
+            whose = "consumer" if places == CONSUMER_PLACES else "generator"
+            names += [f"{hours} {name} of {whose} {place}" for place in range(1, places + 1)]
     return names
 
 

@@ -1,4 +1,5 @@
-"""Random lists of calls, random months and random days of two meters.
+"""Random lists of calls, random months, random crossings of a switch month and random days of two
+meters.
 
 All are Python generators: they yield a call and are sent the second engine's outcome, which tells
 them what stands in the record. The same seed gives the same calls for every library, because only
@@ -9,13 +10,15 @@ import random
 
 from second.calls import (block_call, close_call, day_call, new_record_call, open_call, packed,
                           schedule_call, write_call)
-from second.engine import (CHECK_METER, CONSUMER_TERMS, GENERATOR_TERMS, MAIN_METER,
-                           RECORD_BYTES, RECORD_FORM, RECORD_WORDS, Engine, record_from_bytes,
-                           record_to_bytes)
+from second.engine import (CHECK_METER, CLASS_LISTS, CLASS_TERMS, CONSUMER_TERMS,
+                           GENERATOR_TERMS, MAIN_METER, RECORD_BYTES, RECORD_FORM, RECORD_WORDS,
+                           Engine, record_from_bytes, record_to_bytes)
 
 READING_LIMIT = Engine.HIGHEST_READING
 WIDEST_INPUT = 2**32 - 1
 WIDEST_WORD = 2**64 - 1
+# Month blocks before the first slot of each stretch of one class.
+FIRST_SLOTS = (0, 20, 36, 68, 76, 92)
 
 
 def magnitude(rng, most):
@@ -44,6 +47,12 @@ def percent(rng):
     return rng.choice((0, 0, 1, 1_000, 5_000, rng.randint(0, 5_000), rng.randint(0, 5_000)))
 
 
+def switch_month_for(rng):
+    """Never, within the first closings, or any."""
+    return rng.choice((0, 0, 0, 0, 1, 1, 1, 2, 2, 3, rng.randint(1, 6),
+                       rng.choice((rng.randint(0, 1_200), 1_199, 1_200))))
+
+
 def agreement(rng, busy=False):
     """An opening without fault. A busy one has capacity and links enough to be worth settling."""
     G, C = size(rng)
@@ -60,7 +69,8 @@ def agreement(rng, busy=False):
     losses = [percent(rng) for _ in range(G * C)]
     cycle = rng.choice((1, 1, 2, 2, 3, 4, 12, rng.randint(1, 12)))
     gone = rng.choice((0, cycle - 1, rng.randrange(cycle)))
-    return open_call(G, C, percent(rng), cycle, gone, generator_list, links + losses)
+    return open_call(G, C, percent(rng), cycle, gone, generator_list, links + losses,
+                     switch_month_for(rng))
 
 
 def ranks_for(rng, count):
@@ -131,13 +141,50 @@ def split(rng, total, terms):
     return amounts
 
 
+def moved_in_month(rng, record):
+    """The sound record at another block of the month, mostly just before the class changes."""
+    unit = record_from_bytes(record)
+    day = rng.choice((0, 0, 1, rng.randrange(Engine.MONTH_LIMIT // Engine.SLOTS)))
+    near = Engine.SLOTS * day + rng.choice(FIRST_SLOTS) - rng.randint(0, 3)
+    month_blocks = rng.choice((max(near, 0), max(near, 0), rng.randint(0, Engine.MONTH_LIMIT)))
+    fewest = unit.closings_done + month_blocks
+    if fewest <= Engine.UNIT_LIMIT:
+        unit.month_blocks = month_blocks
+        unit.unit_blocks = max(unit.unit_blocks, min(Engine.UNIT_LIMIT,
+                                                     fewest + rng.randint(0, 200)))
+    return record_to_bytes(unit)
+
+
+def put_classes(rng, unit):
+    """Each place of bank, pending and open is parted over the classes where the new rules apply,
+    with months gone 0; before the switch all class places are 0."""
+    by_hours = Engine().new_rules_apply(unit)
+    if by_hours:
+        unit.gone = 0
+    for term, names in CLASS_TERMS.items():
+        for place, total in enumerate(getattr(unit, term)):
+            parted = split(rng, total, len(names)) if by_hours and total else [0] * len(names)
+            for name, amount in zip(names, parted):
+                getattr(unit, name)[place] = amount
+
+
+def put_closings(rng, unit):
+    """Closings done and switch month: near each other, or the one or the other at its limit."""
+    room = unit.unit_blocks - unit.month_blocks
+    unit.closings_done = min(room, rng.choice((0, 1, room, magnitude(rng, room),
+                                               max(unit.switch_month, 2) - rng.randint(0, 2))))
+    if rng.random() < 0.5:
+        unit.switch_month = min(Engine.LATEST_SWITCH_MONTH, rng.choice((
+            0, 1, unit.closings_done + rng.randint(0, 3), Engine.LATEST_SWITCH_MONTH)))
+
+
 def sound_record(rng, record):
     """A sound record whose totals come from no calls: agreement and schedule as they stand."""
     unit = record_from_bytes(record)
     unit.unit_blocks = rng.choice((magnitude(rng, Engine.UNIT_LIMIT), Engine.UNIT_LIMIT - 1,
                                    rng.randint(1, 9_000)))
     unit.month_blocks = min(unit.unit_blocks, rng.choice((
-        0, 1, 39, 40, rng.randint(0, 3_360), 3_358, 3_359, 3_360)))
+        0, 1, 39, 40, rng.choice(FIRST_SLOTS), rng.randint(0, 3_360), 3_358, 3_359, 3_360)))
     most = READING_LIMIT * unit.unit_blocks
     for count, (first, *others) in ((unit.generators, GENERATOR_TERMS),
                                     (unit.consumers, CONSUMER_TERMS)):
@@ -147,12 +194,14 @@ def sound_record(rng, record):
             for term, amount in zip(others, split(rng, total, len(others))):
                 getattr(unit, term)[place] = amount
     unit.gone = rng.randrange(unit.cycle)
+    put_closings(rng, unit)
+    put_classes(rng, unit)
     return record_to_bytes(unit)
 
 
 def odd_value(rng, value, most):
     """A value other than the one that stands, often just beside it or beside a limit."""
-    limits = (1, 2, 4, 9, 13, 17, 256, 5_001, 400_001, 3_361, 10_000_001, 200_000_001)
+    limits = (1, 2, 4, 9, 13, 17, 256, 1_201, 5_001, 400_001, 3_361, 10_000_001, 200_000_001)
     return rng.choice((value + 1, max(value - 1, 0), rng.choice(limits), rng.choice(limits) - 1,
                        rng.randint(0, most), most, 0, 2**31, 2**32, 2**32 + value, 2**63,
                        2 * value)) % (most + 1)
@@ -168,6 +217,8 @@ def damage(rng, record):
 
 def careful_damage(rng, record):
     """Breaks one clause of soundness and keeps the others, or breaks none."""
+    if rng.random() < 0.4:
+        return damage_by_hours(rng, record)
     unit = record_from_bytes(record)
     terms = rng.choice((GENERATOR_TERMS, CONSUMER_TERMS))
     first, *others = (getattr(unit, term) for term in terms)
@@ -188,6 +239,47 @@ def careful_damage(rng, record):
     else:
         g, c = rng.randrange(unit.generators), rng.randrange(unit.consumers)
         unit.link[g][c] = 1 - unit.link[g][c]
+    return new_record_call(record_to_bytes(unit))
+
+
+def damage_by_hours(rng, record):
+    """Likewise, of the clauses of F-7."""
+    unit = record_from_bytes(record)
+    term = rng.choice(list(CLASS_TERMS))
+    names = CLASS_TERMS[term]
+    used = unit.consumers if term == "open" else unit.generators
+    place = rng.choice((rng.randrange(used), rng.randrange(used),
+                        rng.randrange(len(getattr(unit, term)))))
+    one, another = (getattr(unit, name) for name in rng.sample(names, 2))
+    amount = rng.choice((1, 2, magnitude(rng, READING_LIMIT), 2**63))
+    kind = rng.randrange(7)
+    if kind == 0:  # a class by itself
+        one[place] += rng.choice((amount, -min(amount, one[place])))
+    elif kind == 1:  # from class to class: the sum stays
+        moved = min(amount, one[place])
+        one[place] -= moved
+        another[place] += moved
+    elif kind == 2:  # the sum stays in 64 bits only
+        one[place] += amount
+        another[place] += 2**64 - amount
+    elif kind == 3:  # the old place, with its equation
+        whole = unit.metered if term == "open" else unit.injected
+        moved = rng.choice((1, -1)) if getattr(unit, term)[place] else 1
+        whole[place] += moved
+        getattr(unit, term)[place] += moved
+    elif kind == 4:
+        unit.gone = rng.randrange(unit.cycle)
+    elif kind == 5:
+        unit.switch_month = rng.choice((
+            0, Engine.LATEST_SWITCH_MONTH, Engine.LATEST_SWITCH_MONTH + 1, unit.closings_done,
+            unit.closings_done + 1, unit.closings_done + 2, 2**32 + 1))
+    else:
+        room = unit.unit_blocks - unit.month_blocks
+        unit.closings_done = rng.choice((
+            room, room + 1, unit.unit_blocks, WIDEST_WORD, WIDEST_WORD - 1,
+            2**64 - max(1, unit.month_blocks), max(unit.switch_month, 3) - rng.randint(1, 3)))
+    for name in CLASS_LISTS:
+        setattr(unit, name, [value % 2**64 for value in getattr(unit, name)])
     return new_record_call(record_to_bytes(unit))
 
 
@@ -238,6 +330,10 @@ def random_list(rng):
     record = outcome.record
     for _ in range(rng.randint(5, 40)):
         unit = record_from_bytes(record)
+        if unit.switch_month and rng.random() < 0.12 and engine.sound(unit):
+            # Months are short here: the host moves the record on to the blocks of other classes.
+            record = (yield new_record_call(moved_in_month(rng, record))).record
+            unit = record_from_bytes(record)
         kind = rng.random()
         if not engine.record_sizes_allowed(unit):
             # No list of a right length is known for such a record.
@@ -278,13 +374,18 @@ def random_list(rng):
 
 
 def random_month(rng):
-    """One unit over more than one cycle: some dozens to hundreds of blocks in all."""
+    """One unit over more than one cycle, or over its switch month: some dozens to hundreds of
+    blocks in all. Where the switch comes soon a month has blocks of all classes more often."""
     opening = agreement(rng, busy=True)
-    cycle = opening.numbers[3]
+    cycle, switch_month = opening.numbers[3], opening.numbers[5]
     record = (yield opening).record
     record = (yield schedule_for(rng, record_from_bytes(record))).record
-    blocks_in_all = rng.randint(40, 300)
-    months = rng.randint(cycle + 1, 2 * cycle + 2)
+    if 1 <= switch_month <= 6:
+        months = switch_month + rng.randint(0, 2)
+        blocks_in_all = months * rng.choice((1, 20, 21, 40, 70, rng.randint(1, 130)))
+    else:
+        months = rng.randint(cycle + 1, 2 * cycle + 2)
+        blocks_in_all = rng.randint(40, 300)
     for month in range(months):
         unit = record_from_bytes(record)
         if rng.random() < 0.5:
@@ -303,6 +404,37 @@ def random_month(rng):
             record = outcome.record if len(outcome.record) == RECORD_BYTES else record
             unit = record_from_bytes(record)
         record = (yield close_for(unit)).record
+
+
+def random_crossing(rng):
+    """A unit over its switch month. A month is a few stretches of blocks; before each of them the
+    host moves the record to another block of the month, so that all classes are met soon. Most
+    blocks only bank or are only metered, so that a closing has something to settle."""
+    opening = agreement(rng, busy=True)
+    opening = opening._replace(numbers=(*opening.numbers[:5], rng.choice((1, 1, 2, 2, 3, 4))))
+    record = (yield opening).record
+    record = (yield schedule_for(rng, record_from_bytes(record))).record
+    for month in range(opening.numbers[5] + rng.randint(0, 2)):
+        if rng.random() < 0.15:
+            record = (yield new_record_call(sound_record(rng, record))).record
+        for _ in range(rng.randint(1, 4)):
+            record = (yield new_record_call(moved_in_month(rng, record))).record
+            for _ in range(rng.randint(1, 4)):
+                entry, exit = readings_for(rng, record_from_bytes(record))
+                kind = rng.random()
+                if kind < 0.4:
+                    exit = [0] * len(exit)
+                elif kind < 0.8:
+                    entry = [0] * len(entry)
+                record = (yield block_call(entry, exit)).record
+        if rng.random() < 0.3:
+            record = (yield schedule_for(rng, record_from_bytes(record))).record
+        if rng.random() < 0.1:
+            damaged = record_from_bytes((yield damage_by_hours(rng, record)).record)
+            yield rng.choice((block_for(rng, damaged), schedule_for(rng, damaged),
+                              close_for(damaged)))
+            yield new_record_call(record)
+        record = (yield close_for(record_from_bytes(record))).record
 
 
 def tolerance_for(rng):
@@ -349,7 +481,8 @@ def source(seed, kind, index):
     return random.Random(f"{seed} {kind} {index}")
 
 
-KINDS = {"list": random_list, "month": random_month, "day": random_day}
+KINDS = {"list": random_list, "month": random_month, "crossing": random_crossing,
+         "day": random_day}
 
 
 def calls_of(seed, kind, index):

@@ -1,12 +1,14 @@
 #!/usr/bin/env python3
 """Twelve years of one unit: 420,768 blocks and 144 closings, the library against the second engine.
 
-    twelve_years.py LIBRARY.so [--size 1x2|8x16] [--seed S]
+    twelve_years.py LIBRARY.so [--size 1x2|8x16] [--switch-month M] [--seed S]
 
-After each block and each closing the output and the whole record are compared byte for byte. The
-second engine keeps its figures as a record object from block to block and does the rules on it;
-its soundness and the sentences of demand 3 are checked at each closing. Prints the time a block
-takes through the library in the first and in the last month.
+Without a switch month given they are run twice: with none, and with one in the middle, month 73,
+which ends the old bank in the middle of a cycle. After each block and each closing the output and
+the whole record are compared byte for byte. The second engine keeps its figures as a record object
+from block to block and does the rules on it; its soundness and the sentences of demand 3 are
+checked at each closing. Prints the time a block takes through the library in the first and in the
+last month.
 """
 
 import argparse
@@ -26,18 +28,19 @@ from second.engine import (ACCEPTED, RECORD_BYTES, WH_PER_KW_IN_A_BLOCK, Engine,
                            outputs_to_bytes, record_from_bytes, record_to_bytes)
 
 MONTHS = 144
+SWITCH_MONTHS = (0, 73)
 BLOCKS_A_MONTH = 2_922  # a twelfth of 35,064, a year of 365.25 days
 
 KINDS = (1, 0, 3, 2)
 LARGEST_KW = 400  # a month's schedule for one pair
 
 
-def agreement(G, C, luck):
+def agreement(G, C, switch_month, luck):
     generator_list = []
     for g in range(G):
         generator_list += (KINDS[g % len(KINDS)], LARGEST_KW * C, LARGEST_KW * C)
     losses = [luck.randrange(1_500) for _ in range(G * C)]
-    return open_call(G, C, 800, 12, 3, generator_list, [1] * (G * C) + losses)
+    return open_call(G, C, 800, 12, 3, generator_list, [1] * (G * C) + losses, switch_month)
 
 
 def month_schedule(G, C, luck):
@@ -89,11 +92,11 @@ def demand(where, number, library, second):
             raise Differs("\n".join([where] + words[:20]))
 
 
-def twelve_years(path, G, C, seed):
+def twelve_years(path, G, C, switch_month, seed):
     luck = random.Random(seed)
     engine, names = Engine(), word_names()
     unit = LibraryYears(path, G, C)
-    opening = agreement(G, C, luck)
+    opening = agreement(G, C, switch_month, luck)
     _, opened = engine.open_unit(*opening.numbers, *opening.lists, bytes(RECORD_BYTES))
     demand("opening", unit.open(opening), [("record", names, unit.record.raw)], [opened])
     record = record_from_bytes(opened)
@@ -124,11 +127,12 @@ def twelve_years(path, G, C, seed):
                        [output, record_to_bytes(record)])
             if month in times:
                 times[month].append(taken)
+        before = record_from_bytes(record_to_bytes(record))
         output = engine.closing_steps(record)
         demand(f"closing of month {month}", unit.close(),
                [("output", [], unit.close_output.raw), ("record", names, unit.record.raw)],
                [outputs_to_bytes(output), record_to_bytes(record)])
-        broken = broken_by_record(record) + idle_bank(record, output)
+        broken = broken_by_record(record) + idle_bank(before, output)
         if broken:
             raise Differs("\n".join([f"closing of month {month}, second engine"] + broken))
     return record, times
@@ -138,24 +142,28 @@ def main():
     parser = argparse.ArgumentParser(description=__doc__.splitlines()[0])
     parser.add_argument("library")
     parser.add_argument("--size", choices=("1x2", "8x16"), default="1x2")
+    parser.add_argument("--switch-month", type=int)
     parser.add_argument("--seed", type=int, default=1)
     arguments = parser.parse_args()
     path = arguments.library if "/" in arguments.library else "./" + arguments.library
     G, C = (int(number) for number in arguments.size.split("x"))
-    begun = time.monotonic()
-    try:
-        record, times = twelve_years(path, G, C, arguments.seed)
-    except Differs as difference:
-        print(f"DIFFERENCE, seed {arguments.seed}, size {arguments.size}: {difference}")
-        return 1
-    print(f"{arguments.size}, seed {arguments.seed}: {record.unit_blocks} blocks and {MONTHS} "
-          f"closings, no difference, {time.monotonic() - begun:.1f} s")
-    print(f"injected {sum(record.injected)}, set off {sum(record.set_off)}, "
-          f"drawn {sum(record.drawn)}, lapsed {sum(record.lapsed)}, "
-          f"supplied {sum(record.supplied)} Wh")
-    for month, taken in times.items():
-        print(f"month {month}: {statistics.median(taken) / 1000:.2f} us a block (median), "
-              f"{statistics.mean(taken) / 1000:.2f} us (mean), ctypes call included")
+    given = arguments.switch_month
+    for switch_month in SWITCH_MONTHS if given is None else (given,):
+        what = f"{arguments.size}, switch month {switch_month}, seed {arguments.seed}"
+        begun = time.monotonic()
+        try:
+            record, times = twelve_years(path, G, C, switch_month, arguments.seed)
+        except Differs as difference:
+            print(f"DIFFERENCE, {what}: {difference}")
+            return 1
+        print(f"{what}: {record.unit_blocks} blocks and {MONTHS} closings, no difference, "
+              f"{time.monotonic() - begun:.1f} s")
+        print(f"injected {sum(record.injected)}, set off {sum(record.set_off)}, "
+              f"drawn {sum(record.drawn)}, lapsed {sum(record.lapsed)}, "
+              f"supplied {sum(record.supplied)} Wh")
+        for month, taken in times.items():
+            print(f"month {month}: {statistics.median(taken) / 1000:.2f} us a block (median), "
+                  f"{statistics.mean(taken) / 1000:.2f} us (mean), ctypes call included")
     return 0
 
 

@@ -2,15 +2,16 @@
 """Shows that the test program's cases tell wrong rules from right ones.
 
 Each wrong rule is put into the second engine in the place of one right rule. The wrong engine and
-the right one are fed the fixed cases and random cases of compare.py; a difference must show. For
-each wrong rule, the calls made up to the first difference are printed, once for the fixed cases and
-once for the random ones. Ends with 1 if a wrong rule survives both.
+the right one are fed the fixed cases of compare.py, short ones first, and its random cases; a
+difference must show. For each wrong rule, the calls made up to the first difference are printed,
+once for the fixed cases and once for the random ones. Ends with 1 if a wrong rule survives both.
 """
 
 import argparse
 import struct
 import sys
 import time
+from itertools import count
 from pathlib import Path
 
 sys.path.insert(0, str(Path(__file__).resolve().parent.parent))
@@ -18,9 +19,11 @@ sys.path.insert(0, str(Path(__file__).resolve().parent.parent))
 from fixed_cases import fed, fixed_cases  # noqa: E402
 from random_calls import calls_of  # noqa: E402
 from second.calls import SecondUnit  # noqa: E402
-from second.engine import (ACCEPTED, CHECK_METER, CONSUMER_TERMS, GENERATOR_TERMS,  # noqa: E402
-                           MAIN_METER, MINI_HYDEL, WH_PER_KW_IN_A_BLOCK, WHOLE, WIND, Engine,
-                           inputs_from_bytes, outputs_to_bytes, rounded_up, taken_in_order)
+from second.engine import (ACCEPTED, CHECK_METER, CLASS_LISTS, CLASS_TERMS,  # noqa: E402
+                           CLASSES, CONSUMER_TERMS, GENERATOR_TERMS, MAIN_METER, MINI_HYDEL, NORMAL,
+                           OFF_PEAK, PEAK, WH_PER_KW_IN_A_BLOCK, WHOLE, WIND, Engine,
+                           inputs_from_bytes, outputs_to_bytes, record_from_bytes, record_to_bytes,
+                           rounded_up, sums_over_classes, taken_in_order)
 
 WRONG_RULES = {}
 
@@ -240,11 +243,8 @@ class ReadingLimitLow(Engine):
 
 @wrong("months gone forgotten at opening")
 class MonthsGoneForgotten(Engine):
-    def new_record(self, generators, consumers, rate, cycle, gone, generator_list, pair_list):
-        # A wrong number of months is still refused; a right one is not kept.
-        kept = 0 if gone < cycle else gone
-        return super().new_record(generators, consumers, rate, cycle, kept, generator_list,
-                                  pair_list)
+    def first_months_gone(self, record):
+        return 0
 
 
 @wrong("cycles of 3 or more lapsing monthly")
@@ -307,13 +307,635 @@ class SetOffAcross(Engine):
         return super().sound(record) and sum(record.set_off) == sum(record.consumer_set_off)
 
 
+# Month blocks with closings done are at most unit blocks, so month blocks by themselves are too:
+# the first clause says nothing where the second one stands, and is left out together with it.
+SAID_AGAIN_BY = {"month_within_unit": "closings_within_unit"}
+
+
 def without_clause(clause):
+    left_out = (clause, SAID_AGAIN_BY.get(clause))
     return type("Without_" + clause, (Engine,), {
-        "CLAUSES_OF_SOUND": tuple(name for name in Engine.CLAUSES_OF_SOUND if name != clause)})
+        "CLAUSES_OF_SOUND": tuple(name for name in Engine.CLAUSES_OF_SOUND
+                                  if name not in left_out)})
 
 
 for name_of_clause in Engine.CLAUSES_OF_SOUND:
     WRONG_RULES["sound without " + name_of_clause] = without_clause(name_of_clause)
+
+
+# ---- The bank by hours: slots and classes ----
+
+@wrong("hours: slots counted from 0")
+class SlotsFrom0(Engine):
+    def slot_of_next_block(self, record):
+        return record.month_blocks % self.SLOTS
+
+
+@wrong("hours: slots over the unit's blocks")
+class SlotsOverUnit(Engine):
+    def slot_of_next_block(self, record):
+        return record.unit_blocks % self.SLOTS + 1
+
+
+@wrong("hours: class of the next block")
+class ClassOfBlockAfter(Engine):
+    def slot_of_next_block(self, record):
+        return (record.month_blocks + 1) % self.SLOTS + 1
+
+
+@wrong("hours: slots do not begin again after a day")
+class OneDayOfSlots(Engine):
+    def slot_of_next_block(self, record):
+        return record.month_blocks + 1
+
+
+@wrong("hours: a day of 95 slots")
+class DayOf95Slots(Engine):
+    SLOTS = 95
+
+
+@wrong("hours: a day of 97 slots")
+class DayOf97Slots(Engine):
+    SLOTS = 97
+
+
+def other_class(slot, neighbour):
+    """The slot is of its neighbour's class."""
+    def class_of_slot(self, asked):
+        return Engine.class_of_slot(self, neighbour if asked == slot else asked)
+    return type(f"Slot{slot}As{neighbour}", (Engine,), {"class_of_slot": class_of_slot})
+
+
+for last_of_class in (20, 36, 68, 76, 92):
+    first_of_next = last_of_class + 1
+    for moved, as_one in ((last_of_class, first_of_next), (first_of_next, last_of_class)):
+        WRONG_RULES[f"hours: slot {moved} of the class of slot {as_one}"] = other_class(moved,
+                                                                                        as_one)
+
+
+@wrong("hours: normal and off-peak swapped")
+class NormalOffPeakSwapped(Engine):
+    def class_of_slot(self, slot):
+        right = super().class_of_slot(slot)
+        return {NORMAL: OFF_PEAK, OFF_PEAK: NORMAL}.get(right, right)
+
+
+@wrong("hours: no peak in the evening")
+class NoEveningPeak(Engine):
+    def class_of_slot(self, slot):
+        return NORMAL if slot > 68 else super().class_of_slot(slot)
+
+
+# ---- The bank by hours: the switch ----
+
+@wrong("hours: switch one closing late")
+class SwitchLate(Engine):
+    def new_rules_apply(self, record):
+        return record.switch_month != 0 and record.closings_done >= record.switch_month
+
+    def just_before_the_switch(self, record):
+        return record.closings_done + 1 == record.switch_month
+
+
+@wrong("hours: switch one closing early")
+class SwitchEarly(Engine):
+    def new_rules_apply(self, record):
+        return record.switch_month != 0 and record.closings_done + 2 >= record.switch_month
+
+    def just_before_the_switch(self, record):
+        return record.closings_done + 3 == record.switch_month
+
+
+@wrong("hours: switch month 0 taken as from the start")
+class NeverIsAlways(Engine):
+    def new_rules_apply(self, record):
+        return record.closings_done + 1 >= record.switch_month
+
+
+@wrong("hours: switch month 1 taken as never")
+class FirstIsNever(Engine):
+    def new_rules_apply(self, record):
+        return record.switch_month > 1 and super().new_rules_apply(record)
+
+
+@wrong("hours: new rules in the switch month only")
+class SwitchMonthOnly(Engine):
+    def new_rules_apply(self, record):
+        return record.switch_month != 0 and record.closings_done + 1 == record.switch_month
+
+
+@wrong("hours: no lapse before the switch")
+class NoLapseForSwitch(Engine):
+    def bank_lapses_for_the_switch(self, record):
+        return False
+
+
+@wrong("hours: lapse one closing too early")
+class LapseForSwitchEarly(Engine):
+    def bank_lapses_for_the_switch(self, record):
+        return record.closings_done + 3 == record.switch_month
+
+
+@wrong("hours: lapse in every closing before the switch")
+class LapseInEvery(Engine):
+    def bank_lapses_for_the_switch(self, record):
+        return record.closings_done + 2 <= record.switch_month
+
+
+@wrong("hours: months gone kept in the lapse before the switch")
+class GoneKeptForSwitch(Engine):
+    def steps_1_to_4(self, record):
+        gone, cycle = record.gone + 1, record.cycle
+        output = super().steps_1_to_4(record)
+        if self.bank_lapses_for_the_switch(record) and gone < cycle:
+            record.gone = gone
+        return output
+
+
+@wrong("hours: months gone kept at opening with switch month 1")
+class GoneKeptAtOpening(Engine):
+    def first_months_gone(self, record):
+        return record.gone
+
+
+@wrong("hours: months gone set to 0 at every opening with a switch month")
+class GoneForgottenWithSwitch(Engine):
+    def first_months_gone(self, record):
+        return 0 if record.switch_month else record.gone
+
+
+@wrong("hours: closings not counted")
+class ClosingsNotCounted(Engine):
+    def count_closing(self, record):
+        pass
+
+
+@wrong("hours: closings counted under the old rules only")
+class OldClosingsCounted(Engine):
+    def count_closing(self, record):
+        if not self.new_rules_apply(record):
+            record.closings_done += 1
+
+
+@wrong("hours: closings counted only where there is a switch month")
+class ClosingsCountedForSwitch(Engine):
+    def count_closing(self, record):
+        record.closings_done += record.switch_month != 0
+
+
+@wrong("hours: a refused closing counted")
+class RefusedClosingCounted(Engine):
+    def close(self, record, output):
+        number, record, output = super().close(record, output)
+        if number == 13:
+            unit = record_from_bytes(record)
+            self.count_closing(unit)
+            record = record_to_bytes(unit)
+        return number, record, output
+
+
+# ---- The bank by hours: opening ----
+
+@wrong("hours: 19 before 6")
+class SwitchBeforeTerms(Engine):
+    def bank_terms_allowed(self, record):
+        return not self.switch_month_allowed(record) or super().bank_terms_allowed(record)
+
+
+@wrong("hours: 19 before 3")
+class SwitchBeforeKinds(Engine):
+    def open_unit(self, generators, consumers, rate, cycle, gone, switch_month, *lists):
+        number, record = super().open_unit(generators, consumers, rate, cycle, gone, switch_month,
+                                           *lists)
+        later = number in (3, 4, 5, 6) and switch_month > self.LATEST_SWITCH_MONTH
+        return 19 if later else number, record
+
+
+@wrong("hours: 19 before 2")
+class SwitchBeforeSizes(Engine):
+    def open_unit(self, generators, consumers, rate, cycle, gone, switch_month, *lists):
+        number, record = super().open_unit(generators, consumers, rate, cycle, gone, switch_month,
+                                           *lists)
+        later = number == 2 and switch_month > self.LATEST_SWITCH_MONTH
+        return 19 if later else number, record
+
+
+@wrong("hours: 6 for a switch month over the limit")
+class SwitchAmongTerms(Engine):
+    def bank_terms_allowed(self, record):
+        return super().bank_terms_allowed(record) and self.switch_month_allowed(record)
+
+
+@wrong("hours: 6 tested on the months gone that are kept")
+class TermsOfKeptMonths(Engine):
+    def open_unit(self, generators, consumers, rate, cycle, gone, switch_month, *lists):
+        return super().open_unit(generators, consumers, rate, cycle,
+                                 0 if switch_month == 1 else gone, switch_month, *lists)
+
+
+def switch_month_limit(limit, where):
+    """Another limit in opening or in soundness; the other one stays right."""
+    def other_limit(self, record):
+        return record.switch_month <= limit
+
+    opening = {"switch_month_allowed": other_limit,
+               "right_switch_month": Engine.switch_month_allowed}
+    sound = {"wrong_switch_month": other_limit}
+    methods, clause = {"opening": (opening, "right_switch_month"),
+                       "sound": (sound, "wrong_switch_month")}[where]
+    clauses = tuple(clause if name == "switch_month_allowed" else name
+                    for name in Engine.CLAUSES_OF_SOUND)
+    return type("SwitchMonthLimit", (Engine,), {**methods, "CLAUSES_OF_SOUND": clauses})
+
+
+for where_tested in ("opening", "sound"):
+    for what_limit, other_limit in (("limit of switch month 1,199", 1_199),
+                                    ("limit of switch month 1,201", 1_201),
+                                    ("no limit of switch month", 2**64)):
+        WRONG_RULES[f"hours: {where_tested}, {what_limit}"] = switch_month_limit(other_limit,
+                                                                                 where_tested)
+
+
+# ---- The bank by hours: block ----
+
+@wrong("hours: class pending not raised")
+class ClassPendingNotRaised(Engine):
+    def add_pending(self, record, g, energy):
+        record.pending[g] += energy
+
+
+@wrong("hours: class open not raised")
+class ClassOpenNotRaised(Engine):
+    def add_open(self, record, c, energy):
+        record.open[c] += energy
+
+
+@wrong("hours: old pending not raised under the new rules")
+class OldPendingNotRaised(Engine):
+    def add_pending(self, record, g, energy):
+        before = record.pending[g]
+        super().add_pending(record, g, energy)
+        if self.new_rules_apply(record):
+            record.pending[g] = before
+
+
+@wrong("hours: old open not raised under the new rules")
+class OldOpenNotRaised(Engine):
+    def add_open(self, record, c, energy):
+        before = record.open[c]
+        super().add_open(record, c, energy)
+        if self.new_rules_apply(record):
+            record.open[c] = before
+
+
+@wrong("hours: class pending raised before the switch")
+class ClassPendingRaisedEarly(Engine):
+    def add_pending(self, record, g, energy):
+        record.pending[g] += energy
+        record.of_class(self.class_of_next_block(record), "pending")[g] += energy
+
+
+@wrong("hours: class pending raised in a class that is not the block's")
+class PendingAllNormal(Engine):
+    def add_pending(self, record, g, energy):
+        record.pending[g] += energy
+        if self.new_rules_apply(record):
+            record.normal_pending[g] += energy
+
+
+@wrong("hours: kind 0 banked by class")
+class ScheduledInClass(Engine):
+    def keep_underdrawn(self, record, g, underdrawn):
+        super().keep_underdrawn(record, g, underdrawn)
+        if not self.deemed(record.kind[g]) and self.new_rules_apply(record):
+            record.of_class(self.class_of_next_block(record), "pending")[g] += underdrawn
+
+
+# ---- The bank by hours: closing ----
+
+@wrong("hours: charge on the sum of the classes")
+class ChargeOnSum(Engine):
+    def class_charge(self, record, hours, g):
+        # Peak comes last: what the other two leave of the charge on the sum falls on it.
+        if hours != PEAK:
+            return super().class_charge(record, hours, g)
+        others = sum(rounded_up(pending, record.rate) for pending in self.others(record, g))
+        whole = sum(self.others(record, g)) + record.peak_pending[g]
+        return max(0, rounded_up(whole, record.rate) - others)
+
+    def others(self, record, g):
+        return self.pending_at_start[OFF_PEAK][g], self.pending_at_start[NORMAL][g]
+
+    def settle_by_hours(self, record):
+        self.pending_at_start = {hours: list(record.of_class(hours, "pending"))
+                                 for hours in CLASSES}
+        return super().settle_by_hours(record)
+
+
+@wrong("hours: charge rounded down in each class")
+class ClassChargeDown(Engine):
+    def class_charge(self, record, hours, g):
+        return record.of_class(hours, "pending")[g] * record.rate // WHOLE
+
+
+@wrong("hours: peak not charged")
+class PeakNotCharged(Engine):
+    def class_charge(self, record, hours, g):
+        return 0 if hours == PEAK else super().class_charge(record, hours, g)
+
+
+@wrong("hours: old balance of a class charged again")
+class ClassBankCharged(Engine):
+    def class_charge(self, record, hours, g):
+        again = rounded_up(record.of_class(hours, "bank")[g], record.rate)
+        return min(super().class_charge(record, hours, g) + again,
+                   record.of_class(hours, "pending")[g])
+
+
+@wrong("hours: class banks ignored")
+class ClassBanksIgnored(Engine):
+    def settle_by_hours(self, record):
+        for hours in CLASSES:
+            record.of_class(hours, "bank")[:] = [0] * len(record.bank)
+        return super().settle_by_hours(record)
+
+
+@wrong("hours: peak energy given first")
+class PeakFirst(Engine):
+    def classes_given(self, hours):
+        return (PEAK, hours)
+
+
+@wrong("hours: no peak energy for other classes")
+class OwnClassOnly(Engine):
+    def classes_given(self, hours):
+        return (hours,)
+
+
+@wrong("hours: the class of all generators, then peak of all")
+class ClassOfAllFirst(Engine):
+    def givers(self, record, c, hours):
+        return [(g, given) for given in self.classes_given(hours)
+                for g in self.drawing_order(record, c)]
+
+
+def also_given(to, more):
+    """Where a class is settled, another one's energy is given too."""
+    def classes_given(self, hours):
+        return Engine.classes_given(self, hours) + ((more,) if hours == to else ())
+    return type("AlsoGiven", (Engine,), {"classes_given": classes_given})
+
+
+for settled_class, given_class in ((NORMAL, OFF_PEAK), (OFF_PEAK, NORMAL), (PEAK, OFF_PEAK),
+                                   (PEAK, NORMAL)):
+    shown_classes = [hours.replace("_", "-") for hours in (given_class, settled_class)]
+    WRONG_RULES["hours: {} energy given to {}".format(*shown_classes)] = also_given(settled_class,
+                                                                                   given_class)
+
+
+@wrong("hours: class by class over the consumers")
+class ClassesOuter(Engine):
+    def settlings(self, record):
+        return [(c, hours) for hours in self.settling_order()
+                for c in self.drawing_consumers(record)]
+
+
+@wrong("hours: consumers settling last to first")
+class LastConsumerSettlesFirst(Engine):
+    def settlings(self, record):
+        return [(c, hours) for c in reversed(range(record.consumers))
+                for hours in self.settling_order()]
+
+
+@wrong("hours: settling peak first")
+class PeakSettledFirst(Engine):
+    def settling_order(self):
+        return (PEAK, NORMAL, OFF_PEAK)
+
+
+@wrong("hours: settling normal before off-peak")
+class NormalBeforeOffPeak(Engine):
+    def settling_order(self):
+        return (NORMAL, OFF_PEAK, PEAK)
+
+
+@wrong("hours: settling peak before normal")
+class PeakBeforeNormal(Engine):
+    def settling_order(self):
+        return (OFF_PEAK, PEAK, NORMAL)
+
+
+@wrong("hours: giving by generator number")
+class GivingByNumber(Engine):
+    def givers(self, record, c, hours):
+        return [(g, given) for g in range(record.generators) if record.link[g][c] == 1
+                for given in self.classes_given(hours)]
+
+
+@wrong("hours: unlinked generators giving too")
+class UnlinkedGiving(Engine):
+    def givers(self, record, c, hours):
+        return [(g, given) for g in self.inter_se_order(record, c)
+                for given in self.classes_given(hours)]
+
+
+@wrong("hours: no lapse under the new rules")
+class NoLapseByHours(Engine):
+    def lapse_by_hours(self, record):
+        return [0] * record.generators
+
+
+@wrong("hours: a lapse under the new rules only where the cycle is 1")
+class LapseByCycle(Engine):
+    def lapse_by_hours(self, record):
+        if record.cycle > 1:
+            return [0] * record.generators
+        return super().lapse_by_hours(record)
+
+
+@wrong("hours: peak does not lapse")
+class PeakKept(Engine):
+    def lapse_by_hours(self, record):
+        G = record.generators
+        peak = record.peak_bank[:G]
+        lapsed = super().lapse_by_hours(record)
+        record.peak_bank[:G] = peak
+        return [all_of - kept for all_of, kept in zip(lapsed, peak)]
+
+
+@wrong("hours: months gone rises under the new rules")
+class GoneRisesByHours(Engine):
+    def steps_by_hours(self, record):
+        output = super().steps_by_hours(record)
+        record.gone = (record.gone + 1) % record.cycle
+        return output
+
+
+def left_out_of_sums(which, left_out):
+    """Charge or supplied of one class stays out of what is shown and added to the totals."""
+    def settle_by_hours(self, record):
+        settled = Engine.settle_by_hours(self, record)
+        lists = settled[which]
+        lists[left_out] = [0] * len(lists[left_out])
+        return settled
+    return type("LeftOutOfSums", (Engine,), {"settle_by_hours": settle_by_hours})
+
+
+for class_left_out in CLASSES:
+    shown_class = class_left_out.replace("_", "-")
+    WRONG_RULES[f"hours: charge of {shown_class} left out of the sums"] = left_out_of_sums(
+        0, class_left_out)
+    WRONG_RULES[f"hours: supplied {shown_class} energy left out of the sums"] = left_out_of_sums(
+        2, class_left_out)
+
+
+def kept_after_closing(term):
+    """The class places of a term stay as they were, the old places are 0."""
+    def settle_by_hours(self, record):
+        before = {name: list(getattr(record, name)) for name in CLASS_TERMS[term]}
+        settled = Engine.settle_by_hours(self, record)
+        self.kept = before
+        return settled
+
+    def add_up_classes(self, record):
+        Engine.add_up_classes(self, record)
+        for name, amounts in self.kept.items():
+            setattr(record, name, amounts)
+
+    return type("KeptAfterClosing", (Engine,), {"settle_by_hours": settle_by_hours,
+                                                "add_up_classes": add_up_classes})
+
+
+for kept_term in ("pending", "open"):
+    WRONG_RULES[f"hours: class {kept_term} kept after a closing"] = kept_after_closing(kept_term)
+
+
+# ---- The bank by hours: weak and strong readings of sound ----
+
+def other_clause(clause, method):
+    """One clause of soundness reads otherwise; what else uses the rule of that name stays right."""
+    return type("Other_" + clause, (Engine,), {
+        "other_clause": method,
+        "CLAUSES_OF_SOUND": tuple("other_clause" if name == clause else name
+                                  for name in Engine.CLAUSES_OF_SOUND)})
+
+
+def by_the_classes(compare):
+    """Old places against the sums of their classes."""
+    return lambda self, record: not self.new_rules_apply(record) or all(
+        compare(old, classes)
+        for term, names in CLASS_TERMS.items()
+        for old, classes in zip(getattr(record, term),
+                                sums_over_classes(getattr(record, name) for name in names)))
+
+
+def sums_read(compare):
+    """All three clauses of the sums read otherwise."""
+    return type("SumsRead", (Engine,), {
+        "sums_read": by_the_classes(compare),
+        "CLAUSES_OF_SOUND": tuple(
+            "sums_read" if name == "bank_is_sum_of_its_classes" else name
+            for name in Engine.CLAUSES_OF_SOUND
+            if name not in ("pending_is_sum_of_its_classes", "open_is_sum_of_its_classes"))})
+
+
+def within_agreement(self, record):
+    """Sums over the places of the agreement only."""
+    sizes = {"bank": record.generators, "pending": record.generators, "open": record.consumers}
+    return not self.new_rules_apply(record) or all(
+        getattr(record, term)[:size] == sums_over_classes(
+            getattr(record, name)[:size] for name in CLASS_TERMS[term])
+        for term, size in sizes.items())
+
+
+class SumsWithinAgreement(Engine):
+    CLAUSES_OF_SOUND = tuple(name for name in Engine.CLAUSES_OF_SOUND
+                             if not name.endswith("_is_sum_of_its_classes")) + ("within_agreement",)
+    within_agreement = within_agreement
+
+
+WRONG_RULES.update({
+    "weak sound: closings done and month blocks one over unit blocks": other_clause(
+        "closings_within_unit", lambda self, record:
+        record.closings_done + record.month_blocks <= record.unit_blocks + 1),
+    "strong sound: closings done and month blocks below unit blocks": other_clause(
+        "closings_within_unit", lambda self, record:
+        record.closings_done + record.month_blocks < max(1, record.unit_blocks)),
+    "weak sound: closings done at most unit blocks, month blocks not added": other_clause(
+        "closings_within_unit", lambda self, record: record.closings_done <= record.unit_blocks),
+    "weak sound: closings done and month blocks added modulo 2^64": other_clause(
+        "closings_within_unit", lambda self, record:
+        (record.closings_done + record.month_blocks) % 2**64 <= record.unit_blocks),
+    "weak sound: months gone 1 allowed from the switch on": other_clause(
+        "no_months_gone_from_the_switch_on", lambda self, record:
+        not self.new_rules_apply(record) or record.gone <= 1),
+    "strong sound: months gone 0 before the switch too": other_clause(
+        "no_months_gone_from_the_switch_on", lambda self, record:
+        record.switch_month == 0 or record.gone == 0),
+    "weak sound: old places at least the sums of their classes": sums_read(
+        lambda old, classes: old >= classes),
+    "weak sound: old places at most the sums of their classes": sums_read(
+        lambda old, classes: old <= classes),
+    "weak sound: old places within 1 of the sums of their classes": sums_read(
+        lambda old, classes: abs(old - classes) <= 1),
+    "weak sound: sums of classes taken modulo 2^64": sums_read(
+        lambda old, classes: old == classes % 2**64),
+    "weak sound: classes beyond G or C not looked at": SumsWithinAgreement,
+    "weak sound: a watt-hour in a class place before the switch": other_clause(
+        "class_places_zero_before_the_switch", lambda self, record:
+        self.new_rules_apply(record) or all(max(getattr(record, name)) <= 1
+                                            for name in CLASS_LISTS)),
+    "weak sound: last place of each class list not looked at before the switch": other_clause(
+        "class_places_zero_before_the_switch", lambda self, record:
+        self.new_rules_apply(record) or not any(any(getattr(record, name)[:-1])
+                                                for name in CLASS_LISTS)),
+})
+
+for name_of_list in CLASS_LISTS:
+    WRONG_RULES[f"weak sound: {name_of_list} not looked at before the switch"] = other_clause(
+        "class_places_zero_before_the_switch",
+        lambda self, record, passed=name_of_list: self.new_rules_apply(record) or not any(
+            any(getattr(record, name)) for name in CLASS_LISTS if name != passed))
+
+
+@wrong("weak sound: class places before the switch may be the sums")
+class ClassesBeforeSwitch(Engine):
+    def class_places_zero_before_the_switch(self, record):
+        return super().class_places_zero_before_the_switch(record) or all(
+            getattr(record, term) == sums_over_classes(getattr(record, name) for name in names)
+            for term, names in CLASS_TERMS.items())
+
+
+@wrong("weak sound: sums not looked at in the switch month itself")
+class SumsAfterSwitch(Engine):
+    def sum_of_its_classes(self, record, term):
+        return (record.closings_done + 1 == record.switch_month
+                or super().sum_of_its_classes(record, term))
+
+
+@wrong("strong sound: nothing in a class bank")
+class NoClassBank(Engine):
+    def sound(self, record):
+        return super().sound(record) and not any(any(record.of_class(hours, "bank"))
+                                                 for hours in CLASSES)
+
+
+@wrong("strong sound: closings done at most 1,200")
+class FewClosings(Engine):
+    def sound(self, record):
+        return super().sound(record) and record.closings_done <= self.LATEST_SWITCH_MONTH
+
+
+@wrong("strong sound: switch month at most closings done and one")
+class SwitchReached(Engine):
+    def sound(self, record):
+        return super().sound(record) and record.switch_month <= record.closings_done + 1
+
+
+@wrong("a record of 5,752 bytes accepted")
+class FormerRecord(Engine):
+    def sound_record(self, data):
+        return super().sound_record(data + bytes(784) if len(data) == 5_752 else data)
 
 
 # ---- A day of two meters ----
@@ -528,41 +1150,63 @@ def recorded(calls):
         made.append((call, outcome))
 
 
+class Recorded:
+    """Lists of calls with the right engine's outcomes. Each is recorded when it is first asked for,
+    since no rule that is found before it needs it."""
+
+    def __init__(self, lists):
+        self.to_record = iter(lists)
+        self.made = []
+
+    def __iter__(self):
+        for at in count():
+            if at == len(self.made):
+                calls = next(self.to_record, None)
+                if calls is None:
+                    return
+                made = recorded(calls)
+                # Otherwise no count below would mean anything.
+                if calls_until_difference(Engine(), [made]) is not None:
+                    sys.exit("the right engine differs from itself")
+                self.made.append(made)
+            yield self.made[at]
+
+
 def calls_until_difference(engine, lists):
     """Calls made until the wrong engine differs, or None. A fault in it is a difference too."""
-    count = 0
+    calls = 0
     for made in lists:
         unit = SecondUnit(engine)
         for call, right in made:
-            count += right.number is not None
+            calls += right.number is not None
             try:
                 outcome = unit.do(call)
             except (ArithmeticError, LookupError, ValueError, struct.error):
-                return count
+                return calls
             if outcome != right:
-                return count
+                return calls
     return None
 
 
 def main():
     parser = argparse.ArgumentParser(description=__doc__.splitlines()[0])
-    parser.add_argument("--lists", type=int, default=300)
-    parser.add_argument("--months", type=int, default=10)
-    parser.add_argument("--days", type=int, default=300)
+    parser.add_argument("--lists", type=int, default=80)
+    parser.add_argument("--months", type=int, default=3)
+    parser.add_argument("--crossings", type=int, default=60)
+    parser.add_argument("--days", type=int, default=100)
     parser.add_argument("--seed", type=int, default=1)
     arguments = parser.parse_args()
     begun = time.monotonic()
-    fixed = [recorded(fed(calls)) for _, calls in fixed_cases()]
-    # Days first, since they are short and a wrong rule of a day shows in no other.
-    counts = (("day", arguments.days), ("list", arguments.lists), ("month", arguments.months))
-    drawn_by_lot = [recorded(calls_of(arguments.seed, kind, index))
-                    for kind, count in counts for index in range(count)]
-
-    # The right engine must not differ from itself: otherwise no count below would mean anything.
-    for lists in (fixed, drawn_by_lot):
-        if calls_until_difference(Engine(), lists) is not None:
-            print("the right engine differs from itself")
-            return 1
+    by_length = sorted((calls for _, calls in fixed_cases()), key=len)
+    fixed = Recorded(fed(calls) for calls in by_length)
+    # Days first, since they are short and a wrong rule of a day shows in no other; then lists and
+    # crossings by turns, since some rules show in the one kind only; months last, which are long.
+    in_turn = [("day", index) for index in range(arguments.days)]
+    in_turn += [(kind, index) for index in range(max(arguments.lists, arguments.crossings))
+                for kind, most in (("list", arguments.lists), ("crossing", arguments.crossings))
+                if index < most]
+    in_turn += [("month", index) for index in range(arguments.months)]
+    drawn_by_lot = Recorded(calls_of(arguments.seed, kind, index) for kind, index in in_turn)
 
     print("calls until a difference: fixed cases, random cases")
     survivors = []

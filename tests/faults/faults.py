@@ -114,14 +114,16 @@ FAULTS = {
              "put_list(out, open_at, &supplied, m);"),
         "longer output allowed": ("size == n * m + 3 * n + 2 * m", "n * m + 3 * n + 2 * m <= size"),
         "charge not taken from the bank":
-            ("balance[g] += pending[g] - due.0;", "balance[g] += pending[g];"),
+            ("balance[s] += pending[s] - due.0;", "balance[s] += pending[s];"),
         "all consumers draw what the first lacks":
-            ("keys, outstanding[c])", "keys, outstanding[0])"),
+            ("keys, outstanding[c]);", "keys, outstanding[0]);"),
         "months gone not reset": ("{ 0 } else { gone + 1 }", "{ gone } else { gone + 1 }"),
     },
     "sound": {
         "month blocks over unit blocks allowed":
-            ("(n.monthblocks <= n.unitblocks)", "(n.monthblocks <= n.monthblocks)"),
+            ("(n.monthblocks <= n.unitblocks)", "(n.monthblocks <= n.monthblocks)",
+             "(sum <= n.unitblocks)",
+             "((sum <= n.unitblocks) | (n.unitblocks < n.monthblocks))"),
         "gone equal to the cycle allowed": ("(n.gone < t.cycle)", "(n.gone <= t.cycle)"),
         "full month refused":
             ("(n.monthblocks <= *::MOST_MONTH_BLOCKS)",
@@ -141,6 +143,114 @@ FAULTS = {
         "pairs beyond G allowed":
             ("beyond_sound(s, n * 16, 128 - n * 16)", "beyond_sound(s, n * 16, 0)"),
     },
+    "hours: slots, switch": {
+        "slot from 0": ("month % 96 + 1", "month % 96"),
+        "class of the next block": ("month % 96 + 1", "(month + 1) % 96 + 1"),
+        "slots not round": ("month % 96 + 1", "month + 1"),
+        "slot over the unit's blocks":
+            ("raise_hours(s, counts.monthblocks,", "raise_hours(s, counts.unitblocks,"),
+        "slot 37 normal": ("in_range(37, 68, slot)", "in_range(38, 68, slot)"),
+        "slot 69 off-peak": ("in_range(37, 68, slot)", "in_range(37, 69, slot)"),
+        "slot 20 peak": ("in_range(21, 36, slot)", "in_range(20, 36, slot)"),
+        "slot 77 normal": ("in_range(77, 92, slot)", "in_range(78, 92, slot)"),
+        "slot 92 normal": ("in_range(77, 92, slot)", "in_range(77, 91, slot)"),
+    },
+    "hours: opening": {
+        "switch month of 1,201 allowed": ("wide(switch) > *::MOST_SWITCH", "wide(switch) > 1_201"),
+        "refusal 19 before 6":
+            ("first(term, 6, *::first(late, 19, 0))", "first(late, 19, *::first(term, 6, 0))"),
+        "months gone kept at opening with switch month 1":
+            ("*::first(switch == 1, 0, gone)", "gone"),
+        "closings counted from 1":
+            ("Switch { month, closings: 0 }", "Switch { month, closings: 1 }"),
+        "record of 5,752 bytes opened":
+            ("if record.len() == RECORD_BYTES {\n        let mut agreed",
+             "if (record.len() == RECORD_BYTES) | (record.len() == 5_752) {\n"
+             "        let mut agreed"),
+    },
+    "hours: block": {
+        "class pending not raised":
+            ("raise_by_kind(s, pending, true, out, 2 * size, n, m);", ""),
+        "class open not raised": ("*::raise_numbers(s, remaining, out, 4 * size + n, m);", ""),
+        "classes raised before the switch":
+            ("if *::apply(switch, closings) {", "if switch <= 1_200 {"),
+    },
+    "hours: closing": {
+        "charge on one class only":
+            ("portion_up(Wh(pending[s]), rate)",
+             "portion_up(Wh(lists::only_if(s % 3 == 2, pending[s])), rate)"),
+        "charge rounded once over the classes":
+            ("let due = *::portion_up(Wh(pending[s]), rate);",
+             "let mut lower: u64 = 0;\n            let mut k: usize = s - s % 3;\n"
+             "            while k < s {\n                lower += pending[k];\n"
+             "                k += 1;\n            }\n"
+             "            let before = *::portion_up(Wh(lower), rate);\n"
+             "            let after = energy::portion_up(Wh(lower + pending[s]), rate);\n"
+             "            let due = Wh(after.0 - before.0);"),
+        "charges of the classes not all added":
+            ("charge[s] = due.0;", "charge[s] = lists::only_if(s % 3 != 1, due.0);"),
+        "supplied of peak only": ("lacking[0] + lacking[1] + lacking[2]", "lacking[2]"),
+        "all pending taken as peak":
+            ("let pending = of_classes(s, *::CLASS_PENDING);",
+             "let sums = record_bytes::loading::load8(s, *::PENDING);\n"
+             "    let mut pending = [0u64; 24];\n    let mut g: usize = 0;\n"
+             "    while g < 8 {\n        pending[g * 3 + 2] = sums[g];\n        g += 1;\n    }"),
+        "all open taken as peak":
+            ("[offpeak, normal, peak]", "[0, 0, offpeak + normal + peak]"),
+        "peak given after all of the class":
+            ("want[k] = serve(keys, n, k, has, want[k]);",
+             "let mut left = want[k];\n        let mut i = n;\n        while i > 0 {\n"
+             "            i -= 1;\n            left = give(has, keys[i] % 8 * 3 + k, left);\n"
+             "        }\n        want[k] = serve(keys, n, k, has, left);"),
+        "off-peak given to normal":
+            ("let left = give(has, g * 3 + k, want);",
+             "let mut left = give(has, g * 3 + k, want);\n"
+             "    if k == 1 {\n        left = give(has, g * 3, left);\n    }"),
+        "peak not given to the others": ("give(has, g * 3 + 2, left)", "left"),
+        "classes settled peak first":
+            ("want[k] = serve(keys, n, k, has, want[k]);",
+             "want[2 - k] = serve(keys, n, 2 - k, has, want[2 - k]);"),
+        "no lapse before the switch":
+            ("| *::before_switch(switch.month, switch.closings)", ""),
+        "no lapse by hours":
+            ("*::apply(switch.month, switch.closings)\n            | *::before_switch",
+             "false\n            | hours::before_switch"),
+        "months gone kept before the switch":
+            ("    if due { 0 }",
+             "    if hours::before_switch(switch.month, switch.closings) {\n"
+             "        return gone;\n    }\n    if due { 0 }"),
+        "months gone counted by hours":
+            ("let due = *::lapse_due(switch, gone, cycle);",
+             "let due = *::lapse_due(switch, gone, cycle)\n"
+             "        & !hours::apply(switch.month, switch.closings);"),
+        "closings not counted": ("switch.closings + 1", "switch.closings"),
+        "class places not cleared": ("    clear_classes(s, switch, n, m);", ""),
+        "class bank not cleared": ("*::clear_numbers(s, start, n);", ""),
+        "record of 5,752 bytes closed":
+            ("if record.len() == RECORD_BYTES {\n        let mut out",
+             "if record.len() == 5_752 {\n        let mut whole = [0u8; RECORD_BYTES];\n"
+             "        let mut i: usize = 0;\n        while i < 5_752 {\n"
+             "            whole[i] = record[i];\n            i += 1;\n        }\n"
+             "        let mut out = [0u64; 185];\n"
+             "        let n = wheeling_lists::room(output, 185);\n"
+             "        let number = closing::close_on(&mut whole, &mut out[..n]);\n"
+             "        return wheeling_lists::give(number, &out, n, output);\n    }\n"
+             "    if record.len() == RECORD_BYTES {\n        let mut out"),
+    },
+    "hours: sound, record": {
+        "switch month of 1,201 sound": ("t.month <= *::MOST_SWITCH", "t.month <= 1_201"),
+        "closings and month blocks one over": ("sum <= n.unitblocks", "sum <= n.unitblocks + 1"),
+        "months gone by hours not tested": ("(!hours | (n.gone == 0))", "(!hours | (n.gone < 12))"),
+        "class places before the switch not tested":
+            ("{\n        classes_empty(s)\n    }", "{\n        true\n    }"),
+        "class sums that wrap sound": ("(offpeak <= two) & (two <= three) & ", ""),
+        "switch month and closings swapped":
+            ("SWITCH_MONTH: usize = 719;", "SWITCH_MONTH: usize = 720;",
+             "CLOSINGS: usize = 720;", "CLOSINGS: usize = 719;"),
+        "normal and peak swapped":
+            (" NORMAL: usize = 753;", " NORMAL: usize = 785;",
+             " PEAK: usize = 785;", " PEAK: usize = 753;"),
+    },
     "bytes": {
         "two bytes of an output swapped":
             ("s[b] = (w % 256) as u8;\n    s[b + 1] = (w1 % 256) as u8;",
@@ -155,7 +265,8 @@ FAULTS = {
         "contracted loaded as installed":
             ("let installed = *::column(rows, 1);", "let installed = *::column(rows, 2);"),
         "bank loaded from pending":
-            ("let held = *::load8(s, *::BANK);", "let held = *::load8(s, *::PENDING);"),
+            ("let held = record_bytes::loading::load8(s, *::BANK);",
+             "let held = record_bytes::loading::load8(s, *::PENDING);"),
         "consumers stored one place early":
             ("store_run(&t.supplied, s, *::SUPPLIED);",
              "store_run(&t.supplied, s, *::SUPPLIED - 1);"),
@@ -241,7 +352,7 @@ FAULTS = {
 HIDDEN = {
     "*::Answer { number, after }":
         "the edit is in the call on a record by value; the C call works on the record's bytes",
-    "cycle: 0,":
+    "terms_from(0, 0, 0, 0)":
         "a refused opening returns this record by value; the C call leaves the bytes",
     "if *::wide(k) > *::MOST_READING {":
         "a block refuses such a reading before it is shared",
@@ -253,8 +364,8 @@ HIDDEN = {
 FOUND = re.compile(r"^DIFFERENCE in (.*?)(?:, call \d+ of it \((\w+)\))?, (\d+) calls after "
                    "the start", re.MULTILINE)
 # How the names of what is not a fixed case begin.
-STAGES = {"lists": "random list", "months": "random month", "days": "random day",
-          "texts": "random text"}
+STAGES = {"lists": "random list", "months": "random month", "crossings": "random crossing",
+          "days": "random day", "texts": "random text"}
 
 
 class NotInSource(Exception):

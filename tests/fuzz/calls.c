@@ -23,14 +23,13 @@
 
 enum {
     MOST_CALLS = 200, /* of one input */
+    TERMS = 6,        /* numbers of an opening beside its lists */
 
     /* places in the record, counted in numbers */
     AT_GENERATORS = 0,
     AT_CONSUMERS = 1,
     AT_AGREED = RECORD_COUNTS,
     AT_LINKS = 31,
-    AT_INJECTED = 543,
-    AT_METERED = 623,
 };
 
 DECLARE_ENGINE(wheeling);
@@ -46,7 +45,7 @@ static const struct engine ENGINES[] = {
 };
 enum { ENGINE_COUNT = sizeof ENGINES / sizeof *ENGINES };
 
-static uint64_t calls_made, calls_by_number[BOTH_INCOMPLETE + 1];
+static uint64_t calls_made, calls_by_number[HIGHEST_RESULT + 1];
 
 static void differs(const char *engine, const char *what)
 {
@@ -154,7 +153,7 @@ static uint32_t edge(void)
         0,     1,     2,     3,      4,      8,      9,         11,        12,        13,
         16,    17,    249,   250,    255,    256,    1000,      4999,      5000,      5001,
         9999,  10000, 10001, 399999, 400000, 400001, 100000000, 199999999, 200000000, 200000001,
-        65535, 65536, 0x7fffffff, 0x80000000, 0xfffffffe, 0xffffffff};
+        1199,  1200,  1201,  65535,  65536,  0x7fffffff, 0x80000000, 0xfffffffe, 0xffffffff};
     return EDGES[next_byte() % (sizeof EDGES / sizeof *EDGES)];
 }
 
@@ -184,6 +183,7 @@ static uint32_t random_below(uint32_t bound)
 /* ---- the unit ---- */
 
 static uint8_t record[RECORD_BYTES]; /* as the calls left it: all engines hold the same */
+static uint8_t last_accepted[RECORD_BYTES];
 
 static uint64_t stored(size_t place)
 {
@@ -238,16 +238,21 @@ static size_t maybe_altered(size_t size)
     return change < 0 && size < (size_t)-change ? 0 : size + change;
 }
 
+static size_t maybe_altered_record(void)
+{
+    return next_byte() < 252 ? maybe_altered(RECORD_BYTES) : FORMER_RECORD_BYTES;
+}
+
 /* ---- one call on every engine ---- */
 
 /* The terms are those of an opening, or the tolerance of a day. */
-static void call_all(enum call call, const uint32_t terms[5], struct list lists[2],
+static void call_all(enum call call, const uint32_t terms[TERMS], struct list lists[2],
                      size_t output_size)
 {
     static struct lent lent_record[ENGINE_COUNT], lent_output[ENGINE_COUNT];
     static struct lent lent_lists[ENGINE_COUNT][2];
     static uint8_t long_record[MOST_LENT], pattern[MOST_LENT], answer[MOST_LENT];
-    size_t record_size = maybe_altered(RECORD_BYTES);
+    size_t record_size = maybe_altered_record();
     size_t sizes[2] = {maybe_altered(lists[0].size), maybe_altered(lists[1].size)};
     int turn = (int)next_byte(), no_list = turn >= 128;
     uint32_t number = 0;
@@ -268,8 +273,8 @@ static void call_all(enum call call, const uint32_t terms[5], struct list lists[
         uint8_t *own = lend(&lent_record[e], long_record, record_size, turn);
         uint8_t *out = lend(&lent_output[e], pattern, output_size, turn);
         uint32_t result =
-            call == OPEN ? engine->open(terms[0], terms[1], terms[2], terms[3], terms[4], in[0],
-                                        sizes[0], in[1], sizes[1], own, record_size)
+            call == OPEN ? engine->open(terms[0], terms[1], terms[2], terms[3], terms[4], terms[5],
+                                        in[0], sizes[0], in[1], sizes[1], own, record_size)
             : call == SCHEDULE ? engine->schedule(own, record_size, in[0], sizes[0], in[1], sizes[1])
             : call == BLOCK ? engine->block(own, record_size, in[0], sizes[0], in[1], sizes[1], out,
                                             output_size)
@@ -301,6 +306,10 @@ static void call_all(enum call call, const uint32_t terms[5], struct list lists[
         differs("all", "a refused call wrote");
     if (record_size == RECORD_BYTES)
         memcpy(record, lent_record[0].start, RECORD_BYTES);
+    if (number == 0 && call != DAY)
+        memcpy(last_accepted, record, RECORD_BYTES);
+    if (number == NOT_SOUND && turn % 4 != 0)
+        memcpy(record, last_accepted, RECORD_BYTES); /* the other would be refused on and on */
     calls_made++;
     calls_by_number[number]++;
     for (int e = 0; e < ENGINE_COUNT; e++) {
@@ -314,14 +323,24 @@ static void call_all(enum call call, const uint32_t terms[5], struct list lists[
 /* ---- the calls ---- */
 
 static struct list lists[2];
-static const uint32_t NO_TERMS[5];
+static const uint32_t NO_TERMS[TERMS];
+
+/* Mostly never or one of the first months, so that the closings of an input reach it. */
+static uint32_t switch_month(void)
+{
+    uint32_t how = next_byte();
+    return how < 120   ? 0
+           : how < 240 ? 1 + how % 4
+           : how < 248 ? MOST_SWITCH_MONTH + how % 2
+                       : number_within(0, MOST_SWITCH_MONTH);
+}
 
 static void open_unit(void)
 {
     uint32_t G = number_within(1, MOST_GENERATORS), C = number_within(1, MOST_CONSUMERS);
     uint32_t cycle = number_within(1, 12);
-    uint32_t terms[5] = {G, C, number_within(0, 5000), cycle,
-                         number_within(0, cycle ? cycle - 1 : 0)};
+    uint32_t rate = number_within(0, 5000), gone = number_within(0, cycle ? cycle - 1 : 0);
+    uint32_t terms[TERMS] = {G, C, rate, cycle, gone, switch_month()};
     uint32_t rows = G <= MOST_GENERATORS ? G : 1, columns = C <= MOST_CONSUMERS ? C : 1;
     uint32_t most_loss = number_within(0, 5000) % 5001;
     random_state = next_number(2);
@@ -404,7 +423,7 @@ static void lose_readings(struct list *list)
 static void day(void)
 {
     uint32_t tolerance = number_within(0, 5000), most = number_within(0, 200000000);
-    uint32_t terms[5] = {tolerance}, nearest = tolerance - 2 + next_byte() % 4;
+    uint32_t terms[TERMS] = {tolerance}, nearest = tolerance - 2 + next_byte() % 4;
     random_state = next_number(2);
     for (uint32_t b = 0; b < DAY_BLOCKS; b++) {
         uint32_t apart = nearest + random_below(3);
@@ -420,10 +439,17 @@ static void day(void)
 
 /* ---- what a host may do to the record between calls ---- */
 
+/* One of the places that belong to no generator or consumer. */
+static size_t count_place(void)
+{
+    size_t place = next_byte() % (RECORD_COUNTS + 2);
+    return place < RECORD_COUNTS ? place : AT_SWITCH_MONTH + place - RECORD_COUNTS;
+}
+
 static void damage(void)
 {
     uint32_t how = next_byte();
-    size_t place = how & 1 ? next_byte() % RECORD_COUNTS : next_number(2) % RECORD_NUMBERS;
+    size_t place = how & 1 ? count_place() : next_number(2) % RECORD_NUMBERS;
     uint64_t was = stored(place);
     switch (how / 2 % 6) {
     case 0: store(place, was + 1); break;
@@ -435,16 +461,84 @@ static void damage(void)
     }
 }
 
-/* An older unit: the record stays sound if it was. */
+/* Two classes of one total with 2^63 more each: in 64 bits their sum is as it was. */
+static void damage_two_classes(void)
+{
+    size_t place = AT_CLASSES + next_byte() % (2 * CLASS_NUMBERS);
+    store(place, stored(place) + ((uint64_t)1 << 63));
+    store(place + CLASS_NUMBERS, stored(place + CLASS_NUMBERS) + ((uint64_t)1 << 63));
+}
+
+/* An older unit: the record stays sound if it was. Its month is nearly full, nearly empty or in
+ * between, where the next block may be of any class of hours. */
 static void age(void)
 {
-    uint64_t month = next_byte() & 1 ? MOST_MONTH_BLOCKS - next_byte() % 4 : next_byte() % 4;
+    uint32_t how = next_byte();
+    uint64_t month = how < 64    ? MOST_MONTH_BLOCKS - how % 4
+                     : how < 128 ? how % 4
+                                 : next_number(2) % (MOST_MONTH_BLOCKS + 1);
     store(AT_UNIT_BLOCKS, MOST_UNIT_BLOCKS - next_byte() % 4);
     store(AT_MONTH_BLOCKS, month);
 }
 
+/* Where one class's part of a total stands; 0 where the total has no parts by class. */
+static size_t part_of(size_t total, uint32_t class)
+{
+    size_t parts = AT_CLASSES + CLASS_NUMBERS * class;
+    if (AT_BANK <= total && total < AT_METERED)
+        return parts + (total - AT_BANK);
+    if (AT_OPEN <= total && total < AT_SWITCH_MONTH)
+        return parts + 2 * MOST_GENERATORS + (total - AT_OPEN);
+    return 0;
+}
+
+static int is_by_hours(void)
+{
+    return stored(AT_SWITCH_MONTH) != 0 && stored(AT_CLOSINGS) >= stored(AT_SWITCH_MONTH) - 1;
+}
+
+/* Of each total none to four quarters in the first class, of the rest likewise in the second, and
+ * what is then left in the third. */
+static void split_totals(void)
+{
+    for (size_t total = AT_BANK; total < AT_SWITCH_MONTH; total++) {
+        uint64_t left = stored(total);
+        for (uint32_t class = 0; class < CLASSES && part_of(total, class) != 0; class++) {
+            uint64_t part = class + 1 < CLASSES ? left / 4 * random_below(5) : left;
+            store(part_of(total, class), part);
+            left -= part;
+        }
+    }
+}
+
+/* Closings that the blocks just allow, just do not, or that wrap where the blocks are added. */
+static uint64_t edge_of_closings(void)
+{
+    uint64_t most = stored(AT_UNIT_BLOCKS) - stored(AT_MONTH_BLOCKS);
+    const uint64_t edges[] = {most, most + 1, UINT64_MAX, UINT64_MAX - 1};
+    return edges[next_byte() % (sizeof edges / sizeof *edges)];
+}
+
+/* A unit that banks by hours from now on, or never does: the record stays sound if it was, except
+ * where it has, at times, more closings than its blocks allow. */
+static void change_banking(void)
+{
+    uint32_t how = next_byte();
+    uint64_t closings = how % 4;
+    random_state = next_number(2);
+    store(AT_SWITCH_MONTH, how < 64 ? 0 : 1 + next_byte() % (closings + 1));
+    if (stored(AT_UNIT_BLOCKS) - stored(AT_MONTH_BLOCKS) < closings)
+        store(AT_UNIT_BLOCKS, stored(AT_MONTH_BLOCKS) + closings);
+    store(AT_CLOSINGS, how % 32 / 4 == 7 ? edge_of_closings() : closings);
+    memset(record + 8 * AT_CLASSES, 0, 8 * CLASSES * CLASS_NUMBERS);
+    if (is_by_hours()) {
+        store(AT_MONTHS_GONE, 0);
+        split_totals();
+    }
+}
+
 /* As much energy more in the whole and in one term of an equation: some, much, all that a unit of
- * this age may have, or 1 Wh over that. */
+ * this age may have, or 1 Wh over that. By hours also in a class of the term, at times in none. */
 static void add_balanced(void)
 {
     int by_generator = next_byte() & 1;
@@ -460,6 +554,9 @@ static void add_balanced(void)
     }
     store(whole, stored(whole) + more);
     store(term, stored(term) + more);
+    uint32_t class = next_byte() % (CLASSES + 1);
+    if (is_by_hours() && class < CLASSES && part_of(term, class) != 0)
+        store(part_of(term, class), stored(part_of(term, class)) + more);
 }
 
 static void run_list(const uint8_t *bytes, size_t size)
@@ -467,12 +564,13 @@ static void run_list(const uint8_t *bytes, size_t size)
     input = bytes;
     input_left = size;
     memset(record, 0, sizeof record);
+    memset(last_accepted, 0, sizeof last_accepted);
     memset(lists, 0, sizeof lists);
     uint64_t end = calls_made + MOST_CALLS;
     open_unit();
     while (input_left > 0 && calls_made < end) {
         uint32_t action = next_byte();
-        switch (action % 17) {
+        switch (action % 20) {
         case 0: open_unit(); break;
         case 1: case 2: case 3: schedule(); break;
         case 4: case 5: case 6: blocks(1); break;
@@ -482,6 +580,8 @@ static void run_list(const uint8_t *bytes, size_t size)
         case 12: damage(); damage(); break;
         case 13: age(); break;
         case 14: case 15: add_balanced(); break;
+        case 16: case 17: change_banking(); break;
+        case 18: damage_two_classes(); break;
         default: day(); break;
         }
     }
@@ -490,7 +590,7 @@ static void run_list(const uint8_t *bytes, size_t size)
 static void report(void)
 {
     fprintf(stderr, "%llu calls by number:", (unsigned long long)calls_made);
-    for (uint32_t number = 0; number <= BOTH_INCOMPLETE; number++)
+    for (uint32_t number = 0; number <= HIGHEST_RESULT; number++)
         if (is_result(number))
             fprintf(stderr, " %u: %llu", number, (unsigned long long)calls_by_number[number]);
     fprintf(stderr, "\n");

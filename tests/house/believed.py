@@ -4,10 +4,10 @@
     believed.py            checks the tree; ends with 1 where something stands in the wrong place
     believed.py --table    prints the table that docs/ASSURANCE.md has, and checks nothing
 
-Believed is what the promises of the public calls, the two claims of demand 3 and the claim of a month are made of: the files that
-their text names, and all that these import. Everything else in specs/ is proved of it. So that a reader can tell the two apart,
-crates/*/specs/*.antt are exactly the believed files, and the others stand in crates/*/specs/Laws. A believed file holds definitions
-only.
+Believed is what the promises of the public calls, the two claims of demand 3, the claim of the closings before the switch month and the
+claim of a month are made of: the files that their text names, and all that these import. Everything else in specs/ is proved of it. So
+that a reader can tell the two apart, crates/*/specs/*.antt are exactly the believed files, and the others stand in crates/*/specs/Laws.
+A believed file holds definitions only.
 """
 
 import re
@@ -19,11 +19,11 @@ CRATES = REPOSITORY / "crates"
 ASSURANCE = REPOSITORY / "docs" / "ASSURANCE.md"
 
 # What is promised and claimed, in the order in which it is best read: the public calls in Rattle, the C calls, the two definitions that
-# say demand 3, and the one that says what the blocks of a month gave.
+# say demand 3, the one that says what a closing before the switch month is, and the one that says what the blocks of a month gave.
 C_CALLS = "the C calls"
-CLAIMS = ["Claim", "MonthClaim", "ByteClaim"]
-STARTS = ["opening::opening", "schedule::schedule", "block::block", "closing::close", "soundness::is_sound_record", "Claim", "MonthClaim", C_CALLS,
-          "ByteClaim", "sharing::share", "check_meter::day", "table::read_table", "wheel::report"]
+CLAIMS = ["Claim", "FormerClaim", "MonthClaim", "ByteClaim"]
+STARTS = ["opening::opening", "schedule::schedule", "block::block", "closing::close", "soundness::is_sound_record", "Claim", "FormerClaim",
+          "MonthClaim", C_CALLS, "ByteClaim", "sharing::share", "check_meter::day", "table::read_table", "wheel::report"]
 
 FUNCTION = re.compile(r'^(?:pub )?(extern "C" )?fn (\w+)(?:<[^>]*>)?\(.*?^\{', re.S | re.M)
 IMPORT = re.compile(r"^\s*(?:ghost )?use Rattle·(\w+?)(?:·specs)?\.specs\.((?:Laws\.)?\w+)(?:\.\{([^}]*)\})?", re.M)

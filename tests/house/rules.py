@@ -29,6 +29,7 @@ from second.paper_cases import READER_EDGES, WHEEL_REFUSALS  # noqa: E402
 from wheel_cases import COMPARED, FIXED  # noqa: E402
 from wrong_rules import WRONG_RULES  # noqa: E402
 
+BENCH_TABLES = ("Case", "Case of F-7")
 NUMBERED = [f"Rule {n}" for n in range(1, 9)] + [f"Step {n}" for n in range(1, 5)]
 FIELDS = ("defined", "code", "edits", "tests")
 NONE = re.compile(r"none\b")
@@ -183,7 +184,7 @@ def numbers_in(file):
 
 
 def sound_tests():
-    """The tests that a sound record passes, in the definition's words: what && joins in each of the five."""
+    """The tests that a sound record passes, in the definition's words: what && joins in each definition named ...Sound."""
     for definition in (CRATES / "record" / "specs" / "Sound.antt").read_text().split("\n\n"):
         body = re.search(r"^(\w+Sound) [^:\n]*=(.*)", definition, re.M | re.S)
         if body:
@@ -205,14 +206,23 @@ def tests_of_refusals():
             yield file, name
 
 
-def bench_cases():
-    """{case: the fields of the theorem that are about it}."""
-    text = (CRATES / "book" / "specs" / "Laws" / "BenchCases.antt").read_text()
+def bench_fields():
+    """The fields of the theorem of the bench cases."""
+    return re.findall(r"^  pub ([\w-]+) :", (CRATES / "book" / "specs" / "Laws" / "BenchCases.antt").read_text(), re.M)
+
+
+def numbered_bench_cases():
+    """{case: the fields of the theorem that are about it}, of P1 and up: their fields have the case's name."""
     cases = {}
-    for field in re.findall(r"^  pub (P\d[\w-]*) :", text, re.M):
+    for field in bench_fields():
         for case in re.findall(r"P\d+", field):
             cases.setdefault(case, set()).add(field)
     return cases
+
+
+def bench_rows(found):
+    """(case, row) of each bench case: those of document 01, then those of a request, which have a table of their own."""
+    return [(row[first], row) for first in BENCH_TABLES for row in table(found.get("Bench cases", []), first)]
 
 
 # ---- The checks ----
@@ -270,18 +280,19 @@ def check_refusals(found):
 
 
 def check_bench(found):
-    said, shown = bench_cases(), {}
-    names = definitions("book/specs/Laws/BenchCases")
-    for row in table(found.get("Bench cases", []), "Case"):
+    said, shown = bench_fields(), {}
+    for case, row in bench_rows(found):
         fields = [token for column, cell in row.items() if column.startswith("Fields") for token in TOKEN.findall(cell)]
-        shown[row["Case"]] = fields
-        yield from (f"{row['Case']}: the theorem has no field {field}" for field in fields if field not in names)
-        yield from (f"{row['Case']}: {fault}" for fault in missing_tests(row["Tests"]))
-    for case in sorted(said.keys() | shown.keys(), key=lambda case: int(case[1:])):
+        shown[case] = fields
+        yield from (f"{case}: the theorem has no field {field}" for field in fields if field not in said)
+        yield from (f"{case}: {fault}" for fault in missing_tests(row["Tests"]))
+    for case, fields in numbered_bench_cases().items():
         if case not in shown:
             yield f"Bench cases: {case} is left out"
         else:
-            yield from (f"{case}: the field {field} is left out" for field in sorted(said.get(case, set()) - set(shown[case])))
+            yield from (f"{case}: the field {field} is left out" for field in sorted(fields - set(shown[case])))
+    named = TOKEN.findall("\n".join(found.get("Bench cases", [])))
+    yield from (f"Bench cases: the field {field} is left out" for field in said if field not in named)
 
 
 def check_everywhere(text):
@@ -344,7 +355,7 @@ def main(words):
     for fault in faults:
         print(f"rules: {fault}")
     found = sections(text)
-    count = sum(1 for _ in (*headed_clauses(found), *row_clauses(found), *table(found.get("Bench cases", []), "Case")))
+    count = sum(1 for _ in (*headed_clauses(found), *row_clauses(found), *bench_rows(found)))
     print(f"rules: {count} clauses of docs/RULES.md, {len(faults)} faults")
     return 1 if faults else 0
 

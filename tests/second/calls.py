@@ -18,7 +18,7 @@ PATTERN = b"".join(struct.pack("<Q", 0xA5C3_0000_0000_0001 + 0x1_0101 * k) for k
 
 class Call(NamedTuple):
     name: str  # open, schedule, block, close; day; write, new_record
-    numbers: tuple = ()  # open: G, C, rate, cycle, gone; day: tolerance
+    numbers: tuple = ()  # open: G, C, rate, cycle, gone, switch month; day: tolerance
     lists: tuple = ()  # the input lists in bytes; None is a null pointer with length 0
     record_bytes: Optional[int] = RECORD_BYTES  # length lent; None is a null pointer with length 0
     output_bytes: Optional[int] = None  # block, close, day: likewise
@@ -29,7 +29,7 @@ HOST_WRITES = ("write", "new_record")
 INPUT_NAMES = {"open": ("generator_list", "pair_list"), "schedule": ("kw", "ranks"),
                "block": ("entry", "exit"), "close": (), "day": ("main", "check"),
                "write": (), "new_record": ()}
-NUMBER_NAMES = {"open": ("generators", "consumers", "rate", "cycle", "gone"),
+NUMBER_NAMES = {"open": ("generators", "consumers", "rate", "cycle", "gone", "switch_month"),
                 "day": ("tolerance",)}
 WITH_OUTPUT = ("block", "close", "day")
 
@@ -38,8 +38,10 @@ def packed(numbers):
     return struct.pack(f"<{len(numbers)}I", *numbers)
 
 
-def open_call(generators, consumers, rate, cycle, gone, generator_list, pair_list):
-    return Call("open", (generators, consumers, rate, cycle, gone),
+def open_call(generators, consumers, rate, cycle, gone, generator_list, pair_list,
+              switch_month=0):
+    """Switch month 0 is never: the rules of document 01 by themselves."""
+    return Call("open", (generators, consumers, rate, cycle, gone, switch_month),
                 (packed(generator_list), packed(pair_list)))
 
 

@@ -1,11 +1,11 @@
 #!/usr/bin/env python3
-"""The source documents' own worked figures, by document 01's rules on the second engine.
+"""The source documents' own worked figures, by document 01's rules and F-7 on the second engine.
 
 Run as a script: prints each figure that differs and how many were checked; ends with 1 on a
 difference. The lists of calls are also run against the library (compare.py).
 
-A figure stands here as its document prints it, in the document's unit. Where document 01's rules
-give another one, both stand here, and docs/DECISIONS.md says which rule makes the difference.
+A figure stands here as its document prints it, in the document's unit. Where the rules give
+another one, both stand here, and docs/DECISIONS.md says which rule makes the difference.
 """
 
 import os
@@ -13,7 +13,8 @@ import sys
 
 sys.path.insert(0, os.path.dirname(os.path.dirname(os.path.abspath(__file__))))
 
-from second.engine import SCHEDULED, SOLAR, Engine, rounded_up  # noqa: E402
+from second.engine import (NORMAL, OFF_PEAK, PEAK, SCHEDULED, SOLAR, Engine,  # noqa: E402
+                           rounded_up)
 from second.calls import block_call, close_call, open_call, schedule_call  # noqa: E402
 from second.paper_cases import Figures, Settled  # noqa: E402
 
@@ -79,6 +80,32 @@ def class_month():
             + [close_call(3, 3)])
 
 
+# The same month by F-7, whose classes are those of document 003: one generator, one consumer. For
+# each class: banked, drawn from the DISCOM; then the blocks in which it is banked, and those in
+# which it is drawn, of the 192 of two days.
+CLASS_BLOCKS = {
+    PEAK: (900, 500, range(21, 31), range(77, 87)),
+    NORMAL: (1_100, 8_872, range(1, 11), [*range(11, 21), *range(69, 77), *range(97, 117),
+                                          *range(165, 173), *range(189, 193)]),
+    OFF_PEAK: (1_000, 628, range(37, 47), range(47, 57)),
+}
+# The document settles peak, then normal, then off-peak; F-7 off-peak, then normal, then peak. The
+# sums agree; normal takes all 828 MWh of peak energy here, and the 500 MWh of peak are supplied.
+HOURS_SUPPLIED_PRINTED = {PEAK: 0, NORMAL: 7_532, OFF_PEAK: 0}
+HOURS_SUPPLIED_HERE = {PEAK: 500, NORMAL: 7_032, OFF_PEAK: 0}
+
+
+def hours_month():
+    readings = {}
+    for banked, drawn, blocks_in, blocks_out in CLASS_BLOCKS.values():
+        readings.update({block: ((MWH * banked // len(blocks_in),), (0,)) for block in blocks_in})
+        readings.update({block: ((0,), (MWH * drawn // len(blocks_out),)) for block in blocks_out})
+    return ([open_call(1, 1, 800, 1, 0, (SOLAR, 400_000, 400_000), (1, 0), switch_month=1),
+             schedule_call((1,), (1,))]
+            + [block_call(*readings.get(block, ((0,), (0,)))) for block in range(1, 193)]
+            + [close_call(1, 1)])
+
+
 # ---- Document 004 (and 001), appendices 1(b) and 2: one generator, ten consumers, in kW ----
 
 ALLOCATED = (1_000, 2_000, 1_000, 1_000, 3_000, 5_000, 1_000, 2_000, 1_000, 3_000)
@@ -141,6 +168,7 @@ UNIT_000 = [open_call(1, 1, 1_000, 12, 0, (SOLAR, 10_000, 10_000), (1, LOSS_000)
 DOCUMENT_CASES = {
     **{f"003, slot {slot}": slot_calls(*figures) for slot, (figures, _) in SLOTS.items()},
     "003, Tables 7 and 8": class_month(),
+    "003, Tables 7 and 8, by hours": hours_month(),
     "004, appendix 2 (A)": appendix_2(20_000),
     "004, appendix 2 (B)": appendix_2(18_000),
     "000, scenario 1, April": UNIT_000 + month_000(1_750_000),
@@ -167,6 +195,27 @@ def check_class_month(figures, settled):
             ("net drawal", case.supplied, CLASS_NET_DRAWAL),
             ("consumption", case.open_before, list(CLASS_DRAWN_FROM_DISCOM))):
         figures.equal(f"003, {what}", given, [MWH * energy for energy in printed])
+
+
+def check_hours_month(figures, settled):
+    case = settled["003, Tables 7 and 8, by hours"]
+    for what, given, printed in (
+            ("charges", case.charge, CLASS_CHARGES), ("settled", case.drawn, CLASS_SETTLED),
+            ("unutilised", case.lapsed, CLASS_UNUTILISED),
+            ("net drawal", case.supplied, CLASS_NET_DRAWAL),
+            ("consumption", case.open_before, CLASS_DRAWN_FROM_DISCOM)):
+        figures.equal(f"003, by hours, {what}", given, [MWH * sum(printed)])
+
+    before_closing = Settled(DOCUMENT_CASES["003, Tables 7 and 8, by hours"][:-1], Engine()).record
+    for hours, (banked, drawn, _, _) in CLASS_BLOCKS.items():
+        figures.equal(f"003, by hours, {hours}",
+                      [before_closing.of_class(hours, term)[0] for term in ("pending", "open")],
+                      [MWH * banked, MWH * drawn])
+    _, _, supplied = Engine().settle_by_hours(before_closing)
+    for hours, here in HOURS_SUPPLIED_HERE.items():
+        figures.equal(f"003, by hours, net drawal of {hours}", supplied[hours], [MWH * here])
+        figures.equal(f"003, by hours, net drawal of {hours}, as printed",
+                      here == HOURS_SUPPLIED_PRINTED[hours], hours == OFF_PEAK)
 
 
 def check_appendix_2(figures, settled):
@@ -220,6 +269,7 @@ def main():
         figures.equal(f"{name}, all calls accepted", set(case.numbers), {0})
     check_slots(figures, settled)
     check_class_month(figures, settled)
+    check_hours_month(figures, settled)
     check_appendix_2(figures, settled)
     check_months_000(figures, settled)
     for line in figures.wrong:

@@ -1,5 +1,5 @@
-"""The second engine: the energy account of one unit, from document 01, and a day of a main and a
-check meter, from F-1 of document 02; both as docs/DECISIONS.md reads them.
+"""The second engine: the energy account of one unit, from document 01; a day of a main and a check
+meter and the bank by hours, from F-1 and F-7 of document 02; all as docs/DECISIONS.md reads them.
 
 It is the measure for the proved engine, so it is written to be checked by eye against the paper:
 rules and steps stand in the paper's order under the paper's words. Energy is in whole watt-hours,
@@ -8,7 +8,8 @@ capacity in kW. Python integers do not overflow, so every sum is the sum of the 
 Generators and consumers are counted from 0 here and from 1 in the paper.
 
     engine = Engine()
-    number, record = engine.open_unit(G, C, rate, cycle, gone, generator_list, pair_list, record)
+    number, record = engine.open_unit(G, C, rate, cycle, gone, switch_month,
+                                      generator_list, pair_list, record)
     number, record = engine.schedule(record, kw, ranks)
     number, record, output = engine.block(record, entry, exit, output)
     number, record, output = engine.close(record, output)
@@ -34,6 +35,9 @@ SCHEDULED, WIND, MINI_HYDEL, SOLAR = 0, 1, 2, 3
 
 MAIN_METER, CHECK_METER = 0, 1
 
+# The classes of hours (F-7), in the order of the record.
+OFF_PEAK, NORMAL, PEAK = CLASSES = ("off_peak", "normal", "peak")
+
 # The terms of the two equations of demand 3, in the order of the record. The first one of each is
 # the sum of the others.
 GENERATOR_TERMS = ("injected", "unaccounted", "loss", "set_off", "inadvertent",
@@ -41,22 +45,33 @@ GENERATOR_TERMS = ("injected", "unaccounted", "loss", "set_off", "inadvertent",
 CONSUMER_TERMS = ("metered", "consumer_set_off", "shortfall", "consumer_drawn", "supplied", "open")
 PAIR_LISTS = ("link", "loss_rate", "kw", "rank")
 
+# The terms that exist per class, each with the names of its three lists, and how many places they
+# have.
+CLASS_TERMS = {term: tuple(f"{hours}_{term}" for hours in CLASSES)
+               for term in ("bank", "pending", "open")}
+CLASS_PLACES = {"bank": GENERATOR_PLACES, "pending": GENERATOR_PLACES, "open": CONSUMER_PLACES}
+# The class lists in the order of the record.
+CLASS_LISTS = {f"{hours}_{term}": places for hours in CLASSES
+               for term, places in CLASS_PLACES.items()}
+
 RECORD_WORDS = (7 + 3 * GENERATOR_PLACES
                 + len(PAIR_LISTS) * GENERATOR_PLACES * CONSUMER_PLACES
                 + len(GENERATOR_TERMS) * GENERATOR_PLACES
-                + len(CONSUMER_TERMS) * CONSUMER_PLACES)
+                + len(CONSUMER_TERMS) * CONSUMER_PLACES
+                + 2 + sum(CLASS_LISTS.values()))
 RECORD_BYTES = 8 * RECORD_WORDS
 RECORD_FORM = struct.Struct(f"<{RECORD_WORDS}Q")
 
 
 class Record:
-    """The figures that document 01's record lists.
+    """The figures that document 01's record lists, and those that it gains by F-7.
 
     Lists by generator have 8 places, lists by consumer 16; pair lists are 8 rows of 16.
     """
 
     __slots__ = ("generators", "consumers", "rate", "cycle", "gone", "unit_blocks", "month_blocks",
-                 "kind", "installed", "contracted") + PAIR_LISTS + GENERATOR_TERMS + CONSUMER_TERMS
+                 "kind", "installed", "contracted", *PAIR_LISTS, *GENERATOR_TERMS, *CONSUMER_TERMS,
+                 "switch_month", "closings_done", *CLASS_LISTS)
 
     def __init__(self):
         self.generators = self.consumers = 0
@@ -68,6 +83,13 @@ class Record:
             setattr(self, name, [0] * CONSUMER_PLACES)
         for name in PAIR_LISTS:
             setattr(self, name, [[0] * CONSUMER_PLACES for _ in range(GENERATOR_PLACES)])
+        self.switch_month = self.closings_done = 0
+        for name, places in CLASS_LISTS.items():
+            setattr(self, name, [0] * places)
+
+    def of_class(self, hours, term):
+        """The list of a class: its bank, pending or open."""
+        return getattr(self, f"{hours}_{term}")
 
 
 def record_from_bytes(data):
@@ -93,6 +115,11 @@ def record_from_bytes(data):
     for name in CONSUMER_TERMS:
         setattr(record, name, words[at:at + CONSUMER_PLACES])
         at += CONSUMER_PLACES
+    record.switch_month, record.closings_done = words[at:at + 2]
+    at += 2
+    for name, places in CLASS_LISTS.items():
+        setattr(record, name, words[at:at + places])
+        at += places
     return record
 
 
@@ -105,6 +132,9 @@ def record_to_bytes(record):
         for row in getattr(record, name):
             words += row
     for name in GENERATOR_TERMS + CONSUMER_TERMS:
+        words += getattr(record, name)
+    words += (record.switch_month, record.closings_done)
+    for name in CLASS_LISTS:
         words += getattr(record, name)
     return RECORD_FORM.pack(*words)
 
@@ -122,6 +152,11 @@ def outputs_to_bytes(numbers):
 def rounded_up(amount, rate):
     """amount x rate / 10,000, rounded up."""
     return (amount * rate + WHOLE - 1) // WHOLE
+
+
+def sums_over_classes(lists):
+    """Place by place."""
+    return [sum(amounts) for amounts in zip(*lists)]
 
 
 def taken_in_order(order, offered, wanted):
@@ -152,8 +187,10 @@ class Engine:
     DAY_BLOCKS = 96
     MISSING = 4_294_967_295
     DAY_OUTPUT_LENGTH = 2
+    LATEST_SWITCH_MONTH = 1_200
+    SLOTS = 96
 
-    # ---- The agreement: what opening tests (refusals 2 to 6) and soundness demands ----
+    # ---- The agreement: what opening tests (refusals 2 to 6 and 19) and soundness demands ----
 
     def sizes_allowed(self, generators, consumers):
         return (1 <= generators <= self.MOST_GENERATORS
@@ -176,6 +213,9 @@ class Engine:
         return (record.rate <= self.HIGHEST_RATE
                 and 1 <= record.cycle <= self.LONGEST_CYCLE
                 and record.gone < record.cycle)
+
+    def switch_month_allowed(self, record):
+        return record.switch_month <= self.LATEST_SWITCH_MONTH
 
     # ---- The schedule: what a schedule tests (refusals 7 to 9) and soundness demands ----
 
@@ -251,6 +291,35 @@ class Engine:
         return not (any(any(getattr(record, term)[G:]) for term in GENERATOR_TERMS)
                     or any(any(getattr(record, term)[C:]) for term in CONSUMER_TERMS))
 
+    # "To be sound, the switch month is at most 1,200 and closings done plus month blocks are at
+    # most unit blocks; before the new rules apply the class places are 0; from then on months gone
+    # is 0 and each old place of bank, pending and open is the sum of its three classes." (F-7)
+    # The sums are over all places, so a class place beyond G or C is 0 as the old one is.
+
+    def closings_within_unit(self, record):
+        return record.closings_done + record.month_blocks <= record.unit_blocks
+
+    def class_places_zero_before_the_switch(self, record):
+        return (self.new_rules_apply(record)
+                or not any(any(getattr(record, name)) for name in CLASS_LISTS))
+
+    def no_months_gone_from_the_switch_on(self, record):
+        return not self.new_rules_apply(record) or record.gone == 0
+
+    def sum_of_its_classes(self, record, term):
+        return (not self.new_rules_apply(record)
+                or getattr(record, term) == sums_over_classes(
+                    getattr(record, name) for name in CLASS_TERMS[term]))
+
+    def bank_is_sum_of_its_classes(self, record):
+        return self.sum_of_its_classes(record, "bank")
+
+    def pending_is_sum_of_its_classes(self, record):
+        return self.sum_of_its_classes(record, "pending")
+
+    def open_is_sum_of_its_classes(self, record):
+        return self.sum_of_its_classes(record, "open")
+
     # Sizes come first: the later clauses read the places that they name.
     CLAUSES_OF_SOUND = (
         "record_sizes_allowed", "kinds_allowed", "capacities_allowed", "links_and_losses_allowed",
@@ -258,7 +327,10 @@ class Engine:
         "unit_blocks_allowed", "month_blocks_allowed", "month_within_unit",
         "injected_allowed", "metered_allowed", "generator_equation_holds",
         "consumer_equation_holds", "agreement_beyond_is_zero", "pairs_beyond_are_zero",
-        "totals_beyond_are_zero")
+        "totals_beyond_are_zero",
+        "switch_month_allowed", "closings_within_unit", "class_places_zero_before_the_switch",
+        "no_months_gone_from_the_switch_on", "bank_is_sum_of_its_classes",
+        "pending_is_sum_of_its_classes", "open_is_sum_of_its_classes")
 
     def sound(self, record):
         return all(getattr(self, clause)(record) for clause in self.CLAUSES_OF_SOUND)
@@ -273,11 +345,13 @@ class Engine:
         for place, row in zip(places, rows):
             place[:len(row)] = row
 
-    def new_record(self, generators, consumers, rate, cycle, gone, generator_list, pair_list):
+    def new_record(self, generators, consumers, rate, cycle, gone, switch_month,
+                   generator_list, pair_list):
         """No kW scheduled, every rank 1, all counts and totals 0."""
         record = Record()
         record.generators, record.consumers = generators, consumers
         record.rate, record.cycle, record.gone = rate, cycle, gone
+        record.switch_month = switch_month
         record.kind[:generators] = generator_list[0::3]
         record.installed[:generators] = generator_list[1::3]
         record.contracted[:generators] = generator_list[2::3]
@@ -286,6 +360,39 @@ class Engine:
         self.put_pairs(record.loss_rate, self.pair_rows(pair_list[pairs:], generators, consumers))
         self.put_pairs(record.rank, [[1] * consumers] * generators)
         return record
+
+    def first_months_gone(self, record):
+        """What opening keeps, after 6 has been tested on what it was given: "for switch month 1
+        opening sets it to 0"."""
+        return 0 if record.switch_month == 1 else record.gone
+
+    # ---- The bank by hours (document 02, F-7): which rules, which class ----
+    # "Slots 37 to 68 are off-peak, 21 to 36 and 77 to 92 peak, the rest normal; each month begins
+    # at slot 1 and slots then follow the blocks round. The agreement gains, after months gone, a
+    # switch month, the number of the first closing under the new rules, counted from 1 at opening,
+    # 0 for never; closings before it follow the old rules. The closing just before it lapses the
+    # old bank and sets months gone to 0 [...] From then on pending, bank and open exist per class".
+
+    def new_rules_apply(self, record):
+        """To the next closing, and so to the blocks of the month that it closes."""
+        return record.switch_month != 0 and record.closings_done + 1 >= record.switch_month
+
+    def just_before_the_switch(self, record):
+        """Whether the next closing is the last one under the old rules."""
+        return record.closings_done + 2 == record.switch_month
+
+    def slot_of_next_block(self, record):
+        return record.month_blocks % self.SLOTS + 1
+
+    def class_of_slot(self, slot):
+        if 37 <= slot <= 68:
+            return OFF_PEAK
+        if 21 <= slot <= 36 or 77 <= slot <= 92:
+            return PEAK
+        return NORMAL
+
+    def class_of_next_block(self, record):
+        return self.class_of_slot(self.slot_of_next_block(record))
 
     # ---- Block ----
 
@@ -336,9 +443,21 @@ class Engine:
     def keep_underdrawn(self, record, g, underdrawn):
         """Rule 6 (10.3)."""
         if self.deemed(record.kind[g]):
-            record.pending[g] += underdrawn
+            self.add_pending(record, g, underdrawn)
         else:
             record.inadvertent[g] += underdrawn
+
+    def add_pending(self, record, g, energy):
+        """Under the new rules to the class of the block too; the old place stays the sum."""
+        record.pending[g] += energy
+        if self.new_rules_apply(record):
+            record.of_class(self.class_of_next_block(record), "pending")[g] += energy
+
+    def add_open(self, record, c, energy):
+        """Likewise."""
+        record.open[c] += energy
+        if self.new_rules_apply(record):
+            record.of_class(self.class_of_next_block(record), "open")[c] += energy
 
     def shortfall(self, order, delivered, scheduled, left):
         """Rule 7."""
@@ -396,7 +515,8 @@ class Engine:
             record.metered[c] += exit[c]
             record.consumer_set_off[c] += sum(row[c] for row in set_off)
             record.shortfall[c] += sum(row[c] for row in shortfall)
-            record.open[c] += remainder[c]
+            self.add_open(record, c, remainder[c])
+        # The class of the block was that of the month blocks before it: they rise last.
         record.unit_blocks += 1
         record.month_blocks += 1
 
@@ -441,8 +561,23 @@ class Engine:
         """Step 4, after months gone has risen."""
         return record.gone == record.cycle
 
+    def bank_lapses_for_the_switch(self, record):
+        """F-7: whatever the cycle says."""
+        return self.just_before_the_switch(record)
+
+    def count_closing(self, record):
+        """F-7, under either rules."""
+        record.closings_done += 1
+
     def closing_steps(self, record):
-        """Steps 1 to 4 on the record. Gives the numbers of the output."""
+        """The steps on the record, under the rules that apply to this closing. Gives the numbers of
+        the output."""
+        by_hours = self.new_rules_apply(record)
+        output = self.steps_by_hours(record) if by_hours else self.steps_1_to_4(record)
+        self.count_closing(record)
+        return output
+
+    def steps_1_to_4(self, record):
         G, C = record.generators, record.consumers
 
         # Step 1
@@ -468,20 +603,109 @@ class Engine:
         # Step 4
         record.gone += 1
         lapsed = [0] * G
-        if self.bank_lapses(record):
+        if self.bank_lapses(record) or self.bank_lapses_for_the_switch(record):
             lapsed = record.bank[:G]
             record.bank[:G] = [0] * G
             record.gone = 0
+        self.end_month(record, charge, drawn, lapsed, supplied)
+
+        return self.closing_output(drawn, charge, lapsed, record.bank[:G], open_before, supplied)
+
+    def end_month(self, record, charge, drawn, lapsed, supplied):
+        """The rest of step 4."""
         record.month_blocks = 0
-        for g in range(G):
+        for g in range(record.generators):
             record.charge[g] += charge[g]
             record.drawn[g] += sum(drawn[g])
             record.lapsed[g] += lapsed[g]
-        for c in range(C):
+        for c in range(record.consumers):
             record.consumer_drawn[c] += sum(row[c] for row in drawn)
             record.supplied[c] += supplied[c]
 
+    # ---- Closing a month by hours (F-7) ----
+    # "From then on [...] the charge is rounded up per class, months gone remains 0, and every
+    # closing ends with a lapse. Each consumer in turn settles off-peak, normal, peak; within each,
+    # one linked generator after another gives first its energy of that class, then its peak energy.
+    # The printed, output and balanced terms are sums over classes."
+
+    def class_charge(self, record, hours, g):
+        """Step 1."""
+        return rounded_up(record.of_class(hours, "pending")[g], record.rate)
+
+    def credit_class(self, record, hours):
+        """Step 1 for one class. Gives its charges by generator."""
+        G = record.generators
+        charge = [self.class_charge(record, hours, g) for g in range(G)]
+        bank, pending = record.of_class(hours, "bank"), record.of_class(hours, "pending")
+        for g in range(G):
+            bank[g] += pending[g] - charge[g]
+            pending[g] = 0
+        return charge
+
+    def settling_order(self):
+        return (OFF_PEAK, NORMAL, PEAK)
+
+    def settlings(self, record):
+        """Step 2: which consumer settles which class, one after the other."""
+        return [(c, hours) for c in self.drawing_consumers(record)
+                for hours in self.settling_order()]
+
+    def classes_given(self, hours):
+        """The classes of energy that a generator gives where this one is settled."""
+        return (hours, PEAK)
+
+    def givers(self, record, c, hours):
+        """Step 2: which generator gives which class of its energy, one after the other."""
+        return [(g, given) for g in self.drawing_order(record, c)
+                for given in self.classes_given(hours)]
+
+    def settle_by_hours(self, record):
+        """Steps 1 to 3 on the class places of the record, which then hold the banks before the
+        lapse. Gives charges by class, drawn by pair, supplied by class."""
+        G, C = record.generators, record.consumers
+
+        # Step 1
+        charge = {hours: self.credit_class(record, hours) for hours in CLASSES}
+
+        # Steps 2 and 3
+        drawn = [[0] * C for _ in range(G)]
+        supplied = {hours: [0] * C for hours in CLASSES}
+        for c, hours in self.settlings(record):
+            left = record.of_class(hours, "open")[c]
+            for g, given in self.givers(record, c, hours):
+                bank = record.of_class(given, "bank")
+                energy = min(bank[g], left)
+                bank[g] -= energy
+                drawn[g][c] += energy
+                left -= energy
+            supplied[hours][c] = left
+            record.of_class(hours, "open")[c] = 0
+        return charge, drawn, supplied
+
+    def lapse_by_hours(self, record):
+        """Step 4: whatever the cycle says. Gives the sums that lapse."""
+        G = record.generators
+        lapsed = sums_over_classes(record.of_class(hours, "bank")[:G] for hours in CLASSES)
+        for hours in CLASSES:
+            record.of_class(hours, "bank")[:G] = [0] * G
+        return lapsed
+
+    def add_up_classes(self, record):
+        """Each old place of bank, pending and open is the sum of its three classes."""
+        for term, names in CLASS_TERMS.items():
+            setattr(record, term, sums_over_classes(getattr(record, name) for name in names))
+
+    def steps_by_hours(self, record):
+        G, C = record.generators, record.consumers
+        open_before = record.open[:C]
+        charge, drawn, supplied = self.settle_by_hours(record)
+        charge, supplied = (sums_over_classes(lists.values()) for lists in (charge, supplied))
+        lapsed = self.lapse_by_hours(record)
+        self.add_up_classes(record)
+        self.end_month(record, charge, drawn, lapsed, supplied)
         return self.closing_output(drawn, charge, lapsed, record.bank[:G], open_before, supplied)
+
+    # ---- What a closing gives ----
 
     def closing_output(self, drawn, charge, lapsed, bank, open_before, supplied):
         """One pair list, three lists by generator, two by consumer."""
@@ -540,14 +764,14 @@ class Engine:
         record = record_from_bytes(data)
         return record if self.sound(record) else None
 
-    def open_unit(self, generators, consumers, rate, cycle, gone,
+    def open_unit(self, generators, consumers, rate, cycle, gone, switch_month,
                   generator_list, pair_list, record):
         if (not self.sizes_allowed(generators, consumers)
                 or len(generator_list) != 4 * 3 * generators
                 or len(pair_list) != 4 * 2 * generators * consumers
                 or len(record) != RECORD_BYTES):
             return 2, record
-        opened = self.new_record(generators, consumers, rate, cycle, gone,
+        opened = self.new_record(generators, consumers, rate, cycle, gone, switch_month,
                                  inputs_from_bytes(generator_list), inputs_from_bytes(pair_list))
         if not self.kinds_allowed(opened):
             return 3, record
@@ -557,6 +781,9 @@ class Engine:
             return 5, record
         if not self.bank_terms_allowed(opened):
             return 6, record
+        if not self.switch_month_allowed(opened):
+            return 19, record
+        opened.gone = self.first_months_gone(opened)
         return ACCEPTED, record_to_bytes(opened)
 
     def schedule(self, record, kw, ranks):

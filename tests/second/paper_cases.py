@@ -1,6 +1,7 @@
 #!/usr/bin/env python3
 """Document 01's own figures, checked on the second engine: P1 to P10, the printed table, and the
-example of each refusal number; and what document 02 says of a day of two meters (F-1).
+example of each refusal number; and what document 02 says of a day of two meters (F-1) and of the
+bank by hours (F-7), computed by hand.
 
 Run as a script: prints each figure that differs and how many were checked; ends with 1 on a
 difference. The lists of calls are also run against the library (compare.py).
@@ -8,12 +9,13 @@ difference. The lists of calls are also run against the library (compare.py).
 
 import os
 import sys
+from operator import attrgetter
 
 sys.path.insert(0, os.path.dirname(os.path.dirname(os.path.abspath(__file__))))
 
-from second.engine import (ACCEPTED, CHECK_METER, MAIN_METER, RECORD_BYTES,  # noqa: E402
-                           SCHEDULED, SOLAR, WIND, Engine, outputs_to_bytes, record_from_bytes,
-                           record_to_bytes)
+from second.engine import (ACCEPTED, CHECK_METER, CLASS_LISTS, CLASSES, MAIN_METER,  # noqa: E402
+                           NORMAL, OFF_PEAK, PEAK, RECORD_BYTES, SCHEDULED, SOLAR, WIND, Engine,
+                           outputs_to_bytes, record_from_bytes, record_to_bytes)
 from second.calls import (PATTERN, SecondUnit, block_call, close_call, day_call,  # noqa: E402
                           new_record_call, open_call, schedule_call)
 from second import table  # noqa: E402
@@ -58,8 +60,8 @@ def with_counts(calls, month_blocks, unit_blocks):
     return new_record_call(record_to_bytes(record))
 
 
-# For each refusal number of document 01 that a C call gives: calls of which the last one gets it,
-# by the table's example.
+# For each refusal number of document 01 that a C call gives, and for 19 of document 02: calls of
+# which the last one gets it, by the table's example.
 REFUSAL_EXAMPLES = {
     1: [new_record_call(bytes(RECORD_BYTES)), CLOSE_A],
     2: [open_call(9, 1, 0, 1, 0, (SCHEDULED, 0, 0) * 9, (0,) * 18)],
@@ -74,6 +76,7 @@ REFUSAL_EXAMPLES = {
     11: A + [with_counts(A, 3_359, 3_359), ZERO_BLOCK, ZERO_BLOCK],
     12: A + [with_counts(A, 1, 9_999_999), ZERO_BLOCK, ZERO_BLOCK],
     13: A + [ZERO_BLOCK, CLOSE_A, CLOSE_A],
+    19: [open_call(1, 1, 0, 1, 0, (SCHEDULED, 0, 0), (0, 0), switch_month=1_201)],
 }
 
 
@@ -114,6 +117,204 @@ DAYS = {
     "a main day of 95": (day_call(day_of()[:95], day_of(), 0), (2,)),
     "a check day of 97": (day_call(day_of(), day_of() + (5_000,), 0), (2,)),
     "a day of 95, one missing in each": (day_call(day_of(MISSING)[:95], day_of(MISSING), 0), (2,)),
+}
+
+
+# ---- The bank by hours (F-7) ----
+# All generators are wind without loss, so what a generator feeds in while nothing is metered is
+# pending to the watt-hour, and what a consumer meters while nothing is fed in is open.
+
+def hours_unit(G=1, C=1, switch_month=1, rate=0, cycle=12, gone=0):
+    """Every pair linked, ranks by generator."""
+    return [open_call(G, C, rate, cycle, gone, (WIND, 100, 100) * G, (1,) * G * C + (0,) * G * C,
+                      switch_month),
+            schedule_call((1,) * G * C, [g + 1 for g in range(G) for _ in range(C)])]
+
+
+# A block of each class; the one after it is of the same class.
+BLOCK_OF = {NORMAL: 1, PEAK: 21, OFF_PEAK: 37}
+
+
+def hours_month(G, C, readings):
+    """Blocks from 1 to the last one that {block: (entry, exit)} names; 0 is read in the others."""
+    nothing = ((0,) * G, (0,) * C)
+    return [block_call(*readings.get(block, nothing)) for block in range(1, max(readings) + 1)]
+
+
+def hours_closing(banked, opened, **terms):
+    """One month and its closing. By class: what each generator has pending, what each consumer has
+    open, both before the closing."""
+    G = len(next(iter(banked.values())))
+    C = len(next(iter(opened.values())))
+    readings = {}
+    for hours, block in BLOCK_OF.items():
+        if hours in banked:
+            readings[block] = (banked[hours], (0,) * C)
+        if hours in opened:
+            readings[block + 1] = ((0,) * G, opened[hours])
+    return [*hours_unit(G, C, **terms), *hours_month(G, C, readings), close_call(G, C)]
+
+
+# Block of a month: its class. Blocks 97 and 117 are slots 1 and 21 of the second day.
+CLASS_OF_BLOCK = {1: NORMAL, 20: NORMAL, 21: PEAK, 36: PEAK, 37: OFF_PEAK, 68: OFF_PEAK, 69: NORMAL,
+                  76: NORMAL, 77: PEAK, 92: PEAK, 93: NORMAL, 96: NORMAL, 97: NORMAL, 116: NORMAL,
+                  117: PEAK, 132: PEAK, 133: OFF_PEAK}
+
+
+def only_class(hours, pending, open_):
+    """The class lists of the record, all 0 but for these first places of one class."""
+    figures = {"record." + name: [0] * places for name, places in CLASS_LISTS.items()}
+    figures[f"record.{hours}_pending"][0] = pending
+    figures[f"record.{hours}_open"][1] = open_
+    return figures
+
+
+# Generator 1 is linked to consumer 1 only: in one block it has 10 Wh left over and consumer 2 lacks
+# 7 Wh.
+SLOT_UNIT = [open_call(1, 2, 0, 12, 0, (WIND, 100, 100), (1, 0, 0, 0), switch_month=1),
+             schedule_call((1, 0), (1, 1))]
+
+# Two months under the old rules, the second of them in the middle of a cycle of three, and the
+# first month under the new ones.
+CHANGE_OVER = [
+    *hours_unit(switch_month=3, rate=1_000, cycle=3),
+    block_call((1_000,), (0,)), close_call(1, 1),
+    block_call((500,), (0,)), block_call((0,), (200,)), close_call(1, 1),
+    *hours_month(1, 1, {1: ((15,), (0,)), 21: ((15,), (0,)), 22: ((0,), (3,))}), close_call(1, 1)]
+FIRST_CLOSING, SECOND_CLOSING = (at + 1 for at, call in list(enumerate(CHANGE_OVER))[:-1]
+                                 if call.name == "close")
+NO_CLASS = {"record." + name: [0] * places for name, places in CLASS_LISTS.items()}
+
+# A list of calls, all accepted, with what document 02 makes of the last one: its output's lists,
+# and figures of the record.
+HOURS = {
+    # Slots.
+    **{f"block {block} of a month is {hours.replace('_', '-')}": (
+        SLOT_UNIT + hours_month(1, 2, {block: ((10,), (0, 7))}), only_class(hours, 10, 7))
+       for block, hours in CLASS_OF_BLOCK.items()},
+    # 1 Wh in each: 32 slots of each class, 37 to 68, 21 to 36 with 77 to 92, and all others.
+    "96 blocks are 32 of each class": (
+        hours_unit() + [block_call((1,), (0,))] * 96,
+        {f"record.{hours}_pending": [32] for hours in CLASSES} | {"record.pending": [96]}),
+    # 20 blocks, closed, and one more: slot 1, which is normal, not slot 21, which is peak.
+    "each month begins at slot 1": (
+        hours_unit() + [block_call((1,), (0,))] * 20 + [close_call(1, 1), block_call((1,), (0,))],
+        {"record.normal_pending": [1], "record.peak_pending": [0], "record.pending": [1]}),
+
+    # Charge: 10 % of 15 Wh is 1.5, rounded up 2, for each of three classes: 6. On the sum, 45 Wh,
+    # it would be 4.5, rounded up 5. The rest, 45 - 6, lapses.
+    "charge rounded up in each class": (
+        hours_closing({hours: (15,) for hours in CLASSES}, {NORMAL: (0,)}, rate=1_000),
+        {"charge": [6], "lapsed": [39], "bank": [0], "record.charge": [6], "record.pending": [0]}),
+
+    # What is given: the energy of that class, then peak.
+    # Normal wants 15: 10 of normal, 5 of peak. Peak wants 10 and gets the other 5: 5 are supplied.
+    # With peak first, normal would take 10 of peak and 5 of normal, and peak would get none.
+    "the energy of a class before peak energy": (
+        hours_closing({NORMAL: (10,), PEAK: (10,)}, {NORMAL: (15,), PEAK: (10,)}),
+        {"drawn": [20], "supplied": [5], "lapsed": [0], "open_before": [25]}),
+    # Each of the three classes wants 10; what no class may take lapses.
+    "off-peak energy for off-peak only": (
+        hours_closing({OFF_PEAK: (30,)}, {hours: (10,) for hours in CLASSES}),
+        {"drawn": [10], "supplied": [20], "lapsed": [20]}),
+    "normal energy for normal only": (
+        hours_closing({NORMAL: (30,)}, {hours: (10,) for hours in CLASSES}),
+        {"drawn": [10], "supplied": [20], "lapsed": [20]}),
+    "peak energy for every class": (
+        hours_closing({PEAK: (30,)}, {hours: (10,) for hours in CLASSES}),
+        {"drawn": [30], "supplied": [0], "lapsed": [0]}),
+    # Normal wants 40. Generator 1 gives normal 10, then peak 20; generator 2 gives 10 of its normal
+    # 30, and 20 lapse. If normal of all came before peak of all: 10 and 30, and 20 of peak lapse.
+    "one generator after another gives its class, then its peak": (
+        hours_closing({NORMAL: (10, 30), PEAK: (20, 0)}, {NORMAL: (40,)}),
+        {"drawn": [30, 10], "lapsed": [0, 20], "supplied": [0]}),
+
+    # Who settles what, one after the other.
+    # 30 of peak. Consumer 1 wants 20 for peak and gets them; consumer 2 wants 30 for off-peak and
+    # gets the 10 left. Class by class, consumer 2's off-peak would come first and take all 30.
+    "each consumer settles all classes before the next one": (
+        hours_closing({PEAK: (30,)}, {OFF_PEAK: (0, 30), PEAK: (20, 0)}),
+        {"drawn": [20, 10], "supplied": [0, 20], "lapsed": [0], "open_before": [20, 30]}),
+    # Generator 1 has peak 10, generator 2 normal 10. Off-peak takes the peak energy, normal the
+    # normal energy. If normal came first it would take the peak energy, and off-peak got none.
+    "off-peak is settled before normal": (
+        hours_closing({PEAK: (10, 0), NORMAL: (0, 10)}, {OFF_PEAK: (10,), NORMAL: (10,)}),
+        {"drawn": [10, 10], "supplied": [0], "lapsed": [0, 0]}),
+    # The same banks. Normal takes generator 1's peak energy, peak gets none, and generator 2's
+    # normal energy lapses. If peak came first it would take it, and normal generator 2's.
+    "normal is settled before peak": (
+        hours_closing({PEAK: (10, 0), NORMAL: (0, 10)}, {NORMAL: (10,), PEAK: (10,)}),
+        {"drawn": [10, 0], "supplied": [10], "lapsed": [0, 10]}),
+
+    # Cycle 12, and yet the first closing lapses, and months gone remains 0.
+    "every closing by hours ends with a lapse": (
+        hours_closing({NORMAL: (100,)}, {NORMAL: (30,)}),
+        {"drawn": [30], "lapsed": [70], "bank": [0], "record.gone": 0, "record.closings_done": 1,
+         **NO_CLASS}),
+    "every closing by hours ends with a lapse, the next one too": (
+        hours_closing({NORMAL: (100,)}, {NORMAL: (30,)})
+        + [block_call((50,), (0,)), close_call(1, 1)],
+        {"drawn": [0], "lapsed": [50], "bank": [0], "record.lapsed": [120], "record.gone": 0,
+         "record.closings_done": 2, **NO_CLASS}),
+
+    # The change-over, switch month 3: 10 % of 1,000 is 100, and 900 are banked.
+    "switch month 3, first closing: old rules": (
+        CHANGE_OVER[:FIRST_CLOSING],
+        {"charge": [100], "lapsed": [0], "bank": [900], "record.gone": 1,
+         "record.closings_done": 1, **NO_CLASS}),
+    # A block before the switch month's month adds to no class.
+    "switch month 3, second month: no class": (
+        CHANGE_OVER[:SECOND_CLOSING - 1],
+        {"record.pending": [500], "record.open": [200], "record.bank": [900], **NO_CLASS}),
+    # 900 and 500 - 50 are 1,350; 200 are drawn, and 1,150 lapse though 2 of 3 months have gone.
+    "switch month 3, second closing: a lapse in the middle of the cycle": (
+        CHANGE_OVER[:SECOND_CLOSING],
+        {"charge": [50], "drawn": [200], "lapsed": [1_150], "bank": [0], "record.gone": 0,
+         "record.closings_done": 2, **NO_CLASS}),
+    # Normal 15 and peak 15, charged 2 each; peak wants 3. 13 of normal and 10 of peak lapse.
+    "switch month 3, third closing: by hours": (
+        CHANGE_OVER,
+        {"charge": [4], "drawn": [3], "supplied": [0], "lapsed": [23], "bank": [0],
+         "record.gone": 0, "record.closings_done": 3, **NO_CLASS}),
+    # The first closing is the one just before the switch month.
+    "switch month 2, first closing: a lapse": (
+        [*hours_unit(switch_month=2), block_call((10,), (0,)), close_call(1, 1)],
+        {"lapsed": [10], "bank": [0], "record.gone": 0}),
+    "switch month 0: never by hours, no lapse before the end of the cycle": (
+        [*hours_unit(switch_month=0), block_call((10,), (0,)), close_call(1, 1),
+         block_call((10,), (0,)), close_call(1, 1)],
+        {"lapsed": [0], "bank": [20], "record.gone": 2, "record.closings_done": 2, **NO_CLASS}),
+
+    # Opening.
+    "switch month 1: opening sets months gone to 0": (
+        hours_unit(cycle=3, gone=2)[:1], {"record.gone": 0, "record.switch_month": 1}),
+    "switch month 2: opening keeps months gone": (
+        hours_unit(cycle=3, gone=2, switch_month=2)[:1],
+        {"record.gone": 2, "record.switch_month": 2, "record.closings_done": 0}),
+    "switch month 1,200": (hours_unit(switch_month=1_200)[:1], {"record.switch_month": 1_200}),
+}
+
+# A refused closing is none: the second accepted one is still the last under the old rules.
+REFUSED_BETWEEN = [
+    *hours_unit(switch_month=3), close_call(1, 1), block_call((10,), (0,)), close_call(1, 1),
+    close_call(1, 1), close_call(1, 1), block_call((10,), (0,)), close_call(1, 1)]
+REFUSED_BETWEEN_NUMBERS = [0, 0, 13, 0, 0, 13, 13, 0, 0]
+
+
+def faulty_opening(*faults, switch_month=1_201):
+    """An opening with these faults and, unless given, a switch month over the limit."""
+    return open_call(9 if 2 in faults else 1, 1, 5_001 if 6 in faults else 0, 3, 0,
+                     (4 if 3 in faults else 1, 400_001 if 4 in faults else 0, 0),
+                     (2 if 5 in faults else 0, 0), switch_month)
+
+
+# The number that an opening gets: 19 is tested after 2 to 6.
+HOURS_OPENINGS = {
+    "switch month 1,201": (faulty_opening(), 19),
+    "switch month 4,294,967,295": (faulty_opening(switch_month=2**32 - 1), 19),
+    **{f"{number} before 19": (faulty_opening(number), number) for number in range(2, 7)},
+    # 6 is tested on the months gone that are given, though opening would set them to 0.
+    "switch month 1, months gone 3 of 3": (hours_unit(cycle=3, gone=3)[0], 6),
 }
 
 
@@ -209,7 +410,7 @@ def check_refusals(figures, engine):
         outcome = unit.do(last)
         figures.equal(f"refusal {number}", outcome.number, number)
         figures.equal(f"refusal {number}, record as it was", unit.record, record)
-    figures.equal("numbers with an example", sorted(REFUSAL_EXAMPLES), list(range(1, 14)))
+    figures.equal("numbers with an example", sorted(REFUSAL_EXAMPLES), [*range(1, 14), 19])
 
     figures.equal("refusal 14", table.read_table(1, 1, b"E1,R2\n", 10)[0], 14)
     figures.equal("refusal 15", table.read_table(1, 1, b"E1,R1\n07,5\n", 10)[0], 15)
@@ -222,6 +423,26 @@ def check_days(figures, engine):
         outcome = SecondUnit(engine).do(call)
         output = outputs_to_bytes(numbers) if number == ACCEPTED else PATTERN[:call.output_bytes]
         figures.equal("F-1, " + what, (outcome.number, outcome.output), (number, output))
+
+
+def check_hours(figures, engine):
+    for what, (calls, paper) in HOURS.items():
+        settled = Settled(calls, engine)
+        figures.equal(f"F-7, {what}, all calls accepted", set(settled.numbers), {ACCEPTED})
+        for figure, value in paper.items():
+            got = attrgetter(figure)(settled)
+            # Of a record's list the first places, as many as are given.
+            figures.equal(f"F-7, {what}, {figure}",
+                          got[:len(value)] if isinstance(got, list) else got, value)
+    for what, (call, number) in HOURS_OPENINGS.items():
+        unit = SecondUnit(engine)
+        record = unit.record
+        figures.equal(f"F-7, {what}", (unit.do(call).number, unit.record), (number, record))
+    refused = Settled(REFUSED_BETWEEN, engine)
+    figures.equal("F-7, refused closings between", (refused.numbers, refused.lapsed),
+                  (REFUSED_BETWEEN_NUMBERS, [20]))
+    figures.equal("F-7, closings done where some are refused", refused.record.closings_done, 2)
+    figures.equal("bytes of a record", RECORD_BYTES, 6_536)
 
 
 def well_formed(names, length):
@@ -295,6 +516,7 @@ def main():
     check_printed_table(figures)
     check_refusals(figures, engine)
     check_days(figures, engine)
+    check_hours(figures, engine)
     check_reader_edges(figures)
     for line in figures.wrong:
         print(line)

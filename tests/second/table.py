@@ -69,7 +69,7 @@ def read_table(generators, consumers, text, space):
 
 # Program `wheel`: agreement A.
 GENERATORS, CONSUMERS = 1, 2
-RATE, CYCLE, GONE = 1_000, 2, 0
+RATE, CYCLE, GONE, SWITCH_MONTH = 1_000, 2, 0, 0
 GENERATOR_LIST = (1, 1_000, 800)
 PAIR_LIST = (1, 1, 1_000, 500)
 KW, RANKS = (100, 200), (1, 1)
@@ -92,7 +92,7 @@ def wheel_output(stdin):
         return refused(number)
 
     engine = Engine()
-    number, record = engine.open_unit(GENERATORS, CONSUMERS, RATE, CYCLE, GONE,
+    number, record = engine.open_unit(GENERATORS, CONSUMERS, RATE, CYCLE, GONE, SWITCH_MONTH,
                                       packed(GENERATOR_LIST), packed(PAIR_LIST),
                                       bytes(RECORD_BYTES))
     if number == ACCEPTED:

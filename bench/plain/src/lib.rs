@@ -1,6 +1,6 @@
-//! The plain engine: the energy account of one unit by document 01 and the check-meter input of
-//! document 02, as ordinary Rust without proofs. It is the baseline that the verified library is
-//! measured against.
+//! The plain engine: the energy account of one unit by document 01, with the check-meter input and
+//! the bank by hours of document 02, as ordinary Rust without proofs. It is the baseline that the
+//! verified library is measured against.
 
 mod engine;
 mod record;
@@ -49,6 +49,7 @@ pub unsafe extern "C" fn plain_open(
     rate: u32,
     cycle: u32,
     months_gone: u32,
+    switch_month: u32,
     generator_list: *const u8,
     generator_list_bytes: usize,
     pair_list: *const u8,
@@ -63,6 +64,7 @@ pub unsafe extern "C" fn plain_open(
             rate,
             cycle,
             months_gone,
+            switch_month,
         },
         lent(generator_list, generator_list_bytes),
         lent(pair_list, pair_list_bytes),

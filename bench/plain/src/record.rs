@@ -1,4 +1,4 @@
-//! The record of one unit: 719 numbers of 8 bytes, low byte first, read and written in place.
+//! The record of one unit: 817 numbers of 8 bytes, low byte first, read and written in place.
 
 use std::slice;
 
@@ -12,9 +12,12 @@ pub const MOST_RANK: u64 = 255;
 pub const MOST_READING: u64 = 200_000_000;
 pub const MOST_MONTH_BLOCKS: u64 = 3_360;
 pub const MOST_UNIT_BLOCKS: u64 = 10_000_000;
+pub const MOST_SWITCH_MONTH: u64 = 1_200;
+pub const DAY_BLOCKS: usize = 96;
+pub const CLASSES: usize = 3;
 
 /// One number of a record or an output, as its bytes.
-#[derive(Clone, Copy)]
+#[derive(Clone, Copy, Default)]
 #[repr(transparent)]
 pub struct Number([u8; 8]);
 
@@ -117,6 +120,41 @@ impl ConsumerTotals {
     }
 }
 
+/// The classes of hours, in the order of the record and of a settlement.
+#[derive(Clone, Copy, Debug, PartialEq, Eq)]
+pub enum Class {
+    OffPeak,
+    Normal,
+    Peak,
+}
+
+impl Class {
+    /// The class of the block that comes after so many in its month.
+    pub fn of_block_after(month_blocks: u64) -> Class {
+        match month_blocks % DAY_BLOCKS as u64 + 1 {
+            37..=68 => Class::OffPeak,
+            21..=36 | 77..=92 => Class::Peak,
+            _ => Class::Normal,
+        }
+    }
+}
+
+/// What is settled by classes of hours, of one class.
+#[derive(Default)]
+#[repr(C)]
+pub struct ClassTotals {
+    pub bank: PerGenerator,
+    pub pending: PerGenerator,
+    pub open: PerConsumer,
+}
+
+impl ClassTotals {
+    /// All numbers or-ed together: 0 where each is 0.
+    fn bits(&self) -> u64 {
+        bits(&self.bank) | bits(&self.pending) | bits(&self.open)
+    }
+}
+
 #[repr(C)]
 pub struct Record {
     pub generators: Number,
@@ -133,9 +171,12 @@ pub struct Record {
     pub rank: PerPair,
     pub by_generator: GeneratorTotals,
     pub by_consumer: ConsumerTotals,
+    pub switch_month: Number,
+    pub closings: Number,
+    pub by_class: [ClassTotals; CLASSES],
 }
 
-pub const RECORD_BYTES: usize = 5_752;
+pub const RECORD_BYTES: usize = 6_536;
 const _: () = assert!(size_of::<Record>() == RECORD_BYTES && align_of::<Record>() == 1);
 
 impl Record {
@@ -167,6 +208,13 @@ impl Record {
         )
     }
 
+    /// Whether the open month is banked by hours: the next closing is the switch month's or a
+    /// later one.
+    pub fn is_by_hours(&self) -> bool {
+        let switch_month = self.switch_month.get();
+        switch_month != 0 && self.closings.get() + 1 >= switch_month
+    }
+
     fn is_sound(&self) -> bool {
         if !self.counts_are_sound() {
             return false;
@@ -194,6 +242,7 @@ impl Record {
                 consumers,
                 most_energy,
             )
+            && self.classes_are_sound()
     }
 
     /// The ranges of the numbers that belong to no generator or consumer.
@@ -205,6 +254,24 @@ impl Record {
             && self.months_gone.get() < self.cycle.get()
             && self.unit_blocks.get() <= MOST_UNIT_BLOCKS
             && self.month_blocks.get() <= MOST_MONTH_BLOCKS.min(self.unit_blocks.get())
+            && self.switch_month.get() <= MOST_SWITCH_MONTH
+            && self.closings.get() <= self.unit_blocks.get() - self.month_blocks.get()
+    }
+
+    /// The classes add up to the totals where the month is banked by hours, and are 0 otherwise.
+    /// The totals beyond G and C are 0 by then, so that their classes are.
+    fn classes_are_sound(&self) -> bool {
+        let classes = self.by_class.each_ref();
+        if !self.is_by_hours() {
+            return classes.iter().fold(0, |all, class| all | class.bits()) == 0;
+        }
+        self.months_gone.get() == 0
+            && are_sums(&self.by_generator.bank, classes.map(|class| &class.bank))
+            && are_sums(
+                &self.by_generator.pending,
+                classes.map(|class| &class.pending),
+            )
+            && are_sums(&self.by_consumer.open, classes.map(|class| &class.open))
     }
 
     /// The ranges of one generator in use and of its pairs, and the rules of its schedule.
@@ -240,8 +307,28 @@ impl Record {
     }
 }
 
+fn bits(numbers: &[Number]) -> u64 {
+    numbers.iter().fold(0, |bits, number| bits | number.get())
+}
+
 fn is_zero(numbers: &[Number]) -> bool {
-    numbers.iter().fold(0, |bits, number| bits | number.get()) == 0
+    bits(numbers) == 0
+}
+
+/// Every whole is the sum of its classes. A sound whole is far below 2^62; so is each of its
+/// classes then, and three such numbers add up without an overflow.
+fn are_sums<const PLACES: usize>(
+    whole: &[Number; PLACES],
+    classes: [&[Number; PLACES]; CLASSES],
+) -> bool {
+    let (mut bits, mut differing) = (0, 0);
+    for place in 0..PLACES {
+        let [off_peak, normal, peak] = classes.map(|class| class[place].get());
+        let sum = off_peak.wrapping_add(normal).wrapping_add(peak);
+        bits |= off_peak | normal | peak;
+        differing |= sum ^ whole[place].get();
+    }
+    bits < 1 << 62 && differing == 0
 }
 
 /// Every whole in use is the sum of its parts and at most `most`; the places beyond are 0.

@@ -1,6 +1,12 @@
-use crate::engine::{self, Refusal, Terms, DAY_BLOCKS, MISSING};
-use crate::record::{numbers, Record, MOST_MONTH_BLOCKS, MOST_UNIT_BLOCKS, RECORD_BYTES};
+use crate::engine::{self, Refusal, Terms, MISSING};
+use crate::record::{
+    numbers, Class, ClassTotals, Number, Record, CLASSES, DAY_BLOCKS, MOST_MONTH_BLOCKS,
+    MOST_UNIT_BLOCKS, RECORD_BYTES,
+};
 use std::ptr;
+
+/// The record of before the bank by hours.
+const RECORD_BYTES_BEFORE_HOURS: usize = 5_752;
 
 fn bytes(values: &[u32]) -> Vec<u8> {
     values
@@ -41,6 +47,7 @@ struct Agreement {
     rate: u32,
     cycle: u32,
     months_gone: u32,
+    switch_month: u32,
     generator_list: Vec<u32>,
     pair_list: Vec<u32>,
 }
@@ -53,6 +60,7 @@ impl Agreement {
             rate: 1_000,
             cycle: 2,
             months_gone: 0,
+            switch_month: 0,
             generator_list: vec![1, 1_000, 800],
             pair_list: vec![1, 1, 1_000, 500],
         }
@@ -73,6 +81,20 @@ impl Agreement {
         }
     }
 
+    /// Wind generators without loss, all linked to all consumers.
+    fn by_hours(generators: u32, consumers: u32) -> Agreement {
+        let pairs = (generators * consumers) as usize;
+        Agreement {
+            generators,
+            consumers,
+            rate: 0,
+            switch_month: 1,
+            generator_list: [1, 40, 40].repeat(generators as usize),
+            pair_list: [vec![1; pairs], vec![0; pairs]].concat(),
+            ..Agreement::a()
+        }
+    }
+
     fn open_into(&self, record: &mut [u8]) -> Result<(), Refusal> {
         let terms = Terms {
             generators: self.generators,
@@ -80,6 +102,7 @@ impl Agreement {
             rate: self.rate,
             cycle: self.cycle,
             months_gone: self.months_gone,
+            switch_month: self.switch_month,
         };
         engine::open(
             &terms,
@@ -168,6 +191,23 @@ impl Unit {
             open: list(self.consumers),
             supplied: list(self.consumers),
         }
+    }
+
+    fn class(&mut self, class: Class) -> &mut ClassTotals {
+        &mut self.record().by_class[class as usize]
+    }
+
+    /// Enters a block in the next such slot, after blocks of nothing.
+    fn block_in(&mut self, slot: u64, entry: &[u32], exit: &[u32]) -> Block {
+        while self.record().month_blocks.get() % DAY_BLOCKS as u64 + 1 != slot {
+            self.block(&vec![0; self.generators], &vec![0; self.consumers]);
+        }
+        self.block(entry, exit)
+    }
+
+    /// A closing without output is refused with 2 where the record is sound.
+    fn is_sound(&mut self) -> bool {
+        engine::close(&mut self.record, &mut []) != Err(Refusal::UnsoundRecord)
     }
 
     /// The refusal of a schedule, which leaves the record's bytes; likewise those below.
@@ -359,9 +399,11 @@ fn refusal_1_unsound_record() {
     );
     assert_eq!(zeros.refused_block(&[0], &[0, 0]), Refusal::UnsoundRecord);
     assert_eq!(zeros.refused_close(), Refusal::UnsoundRecord);
-    let mut short = Unit::a();
-    short.record.pop();
-    assert_eq!(short.refused_block(&[0], &[0, 0]), Refusal::UnsoundRecord);
+    for length in [RECORD_BYTES - 1, RECORD_BYTES_BEFORE_HOURS, 0] {
+        let mut short = Unit::a();
+        short.record.truncate(length);
+        assert_eq!(short.refused_block(&[0], &[0, 0]), Refusal::UnsoundRecord);
+    }
 }
 
 #[test]
@@ -423,8 +465,10 @@ fn refusal_2_range_of_g_and_c_and_lengths() {
         .refused(),
         Refusal::Length
     );
-    let result = Agreement::a().open_into(&mut vec![0; RECORD_BYTES + 8]);
-    assert_eq!(result, Err(Refusal::Length));
+    for length in [RECORD_BYTES + 8, RECORD_BYTES_BEFORE_HOURS, 0] {
+        let result = Agreement::a().open_into(&mut vec![0; length]);
+        assert_eq!(result, Err(Refusal::Length));
+    }
 
     let mut unit = Unit::a();
     assert_eq!(unit.refused_schedule(&[0], &[1, 1]), Refusal::Length);
@@ -445,8 +489,12 @@ fn refusal_2_range_of_g_and_c_and_lengths() {
 }
 
 #[test]
-fn refusals_3_to_6_lowest_first() {
+fn refusals_3_to_6_and_19_lowest_first() {
     let mut agreement = Agreement::a();
+    agreement.switch_month = 1_200;
+    agreement.opened();
+    agreement.switch_month = 1_201;
+    assert_eq!(agreement.refused(), Refusal::SwitchMonth);
     agreement.months_gone = 2;
     assert_eq!(agreement.refused(), Refusal::BankTerm);
     agreement.pair_list[3] = 5_001;
@@ -536,6 +584,339 @@ fn refusals_10_to_13() {
     unit.close();
     assert_eq!(unit.refused_block(&[0], &[0, 0]), Refusal::UnitFull);
     assert_eq!(unit.refused_close(), Refusal::MonthEmpty);
+}
+
+const OFF_PEAK: u64 = 37; // slots
+const NORMAL: u64 = 1;
+const PEAK: u64 = 21;
+
+#[test]
+fn slots_of_the_classes() {
+    let class_of = |slot: u64| Class::of_block_after(slot - 1);
+    for (first, last, class) in [
+        (1, 20, Class::Normal),
+        (21, 36, Class::Peak),
+        (37, 68, Class::OffPeak),
+        (69, 76, Class::Normal),
+        (77, 92, Class::Peak),
+        (93, 96 + 20, Class::Normal),
+        (96 + 21, 96 + 36, Class::Peak),
+    ] {
+        assert_eq!((class_of(first), class_of(last)), (class, class), "{first}");
+    }
+}
+
+#[test]
+fn a_block_adds_to_the_class_of_its_slot_each_month_from_slot_1() {
+    let mut unit = Agreement::by_hours(1, 1).opened().scheduled(&[40], &[1]);
+    for month in [100, 30] {
+        let mut expected = [[0, 0]; CLASSES];
+        for after in 0..month {
+            unit.block(&[1], &[0]);
+            expected[Class::of_block_after(after) as usize][0] += 1;
+        }
+        unit = unit.scheduled(&[0], &[1]);
+        unit.block(&[0], &[5]);
+        expected[Class::of_block_after(month) as usize][1] += 5;
+        unit = unit.scheduled(&[40], &[1]);
+        let record = unit.record();
+        let places = |class: &ClassTotals| [class.pending[0].get(), class.open[0].get()];
+        assert_eq!(record.by_class.each_ref().map(places), expected);
+        assert_eq!(record.by_generator.pending[0].get(), month);
+        assert_eq!(record.by_consumer.open[0].get(), 5);
+        unit.close();
+    }
+}
+
+#[test]
+fn a_block_of_a_scheduled_generator_adds_to_no_class() {
+    let mut agreement = Agreement::by_hours(1, 1);
+    agreement.generator_list[0] = 0;
+    let mut unit = agreement.opened().scheduled(&[40], &[1]);
+    unit.block(&[10_000], &[4_000]);
+    assert_eq!(unit.record().by_generator.inadvertent[0].get(), 6_000);
+    assert_eq!(unit.class(Class::Normal).pending[0].get(), 0);
+}
+
+#[test]
+fn the_charge_is_rounded_up_in_each_class() {
+    let agreement = Agreement {
+        rate: 1_000,
+        ..Agreement::by_hours(1, 1)
+    };
+    let mut unit = agreement.opened().scheduled(&[40], &[1]);
+    for slot in [NORMAL, PEAK, OFF_PEAK] {
+        unit.block_in(slot, &[15], &[0]);
+    }
+    let closing = unit.close();
+    assert_eq!((closing.charge, closing.lapsed), (vec![6], vec![39]));
+    assert_eq!(closing.bank, [0]);
+}
+
+#[test]
+fn peak_energy_serves_every_class_and_other_energy_its_own() {
+    for (banked, served) in [
+        (NORMAL, [NORMAL].as_slice()),
+        (PEAK, &[NORMAL, PEAK, OFF_PEAK]),
+        (OFF_PEAK, &[OFF_PEAK]),
+    ] {
+        for wanted in [NORMAL, PEAK, OFF_PEAK] {
+            let mut unit = Agreement::by_hours(1, 1).opened().scheduled(&[40], &[1]);
+            unit.block_in(banked, &[10], &[0]);
+            unit.block_in(wanted, &[0], &[7]);
+            let drawn = if served.contains(&wanted) { 7 } else { 0 };
+            assert_eq!(
+                unit.close(),
+                Closing {
+                    drawn: vec![drawn],
+                    charge: vec![0],
+                    lapsed: vec![10 - drawn],
+                    bank: vec![0],
+                    open: vec![7],
+                    supplied: vec![7 - drawn],
+                }
+            );
+        }
+    }
+}
+
+#[test]
+fn each_generator_gives_its_class_and_then_its_peak_before_the_next_one() {
+    let unit = Agreement::by_hours(2, 1).opened();
+    let mut unit = unit.scheduled(&[40, 40], &[2, 1]);
+    unit.block_in(NORMAL, &[20, 3], &[0]);
+    unit.block_in(PEAK, &[0, 5], &[0]);
+    unit.block_in(69, &[0, 0], &[10]);
+    let closing = unit.close();
+    assert_eq!(closing.drawn, [2, 8]);
+    assert_eq!(closing.lapsed, [18, 0]);
+}
+
+#[test]
+fn each_consumer_settles_all_its_classes_before_the_next_one() {
+    let unit = Agreement::by_hours(1, 2).opened();
+    let mut unit = unit.scheduled(&[40, 0], &[1, 1]);
+    unit.block_in(NORMAL, &[0], &[4, 6]);
+    unit.block_in(PEAK, &[10], &[0, 0]);
+    unit.block_in(PEAK + 1, &[0], &[6, 0]);
+    let closing = unit.close();
+    assert_eq!(closing.drawn, [10, 0]);
+    assert_eq!((closing.open, closing.supplied), (vec![10, 6], vec![0, 6]));
+}
+
+#[test]
+fn a_consumer_settles_off_peak_then_normal_then_peak() {
+    let mut unit = Agreement::by_hours(1, 1).opened().scheduled(&[40], &[1]);
+    unit.block_in(NORMAL, &[0], &[4]);
+    unit.block_in(PEAK, &[0], &[4]);
+    unit.block_in(PEAK + 1, &[9], &[0]);
+    unit.block_in(OFF_PEAK, &[0], &[4]);
+    assert_eq!(unit.close().drawn, [9]);
+
+    // Off-peak energy is the first to be wanted: none of it is left to lapse.
+    let mut unit = Agreement::by_hours(1, 1).opened().scheduled(&[40], &[1]);
+    unit.block_in(PEAK, &[5], &[0]);
+    unit.block_in(PEAK + 1, &[0], &[5]);
+    unit.block_in(OFF_PEAK, &[3], &[0]);
+    unit.block_in(OFF_PEAK + 1, &[0], &[4]);
+    let closing = unit.close();
+    assert_eq!((closing.drawn, closing.supplied), (vec![8], vec![1]));
+}
+
+#[test]
+fn a_bank_by_hours_is_drawn_only_by_linked_consumers() {
+    let mut agreement = Agreement::by_hours(2, 1);
+    agreement.pair_list[0] = 0;
+    let mut unit = agreement.opened().scheduled(&[0, 40], &[1, 2]);
+    unit.block(&[0, 10], &[0]);
+    unit.block(&[0, 0], &[15]);
+    let totals = &mut unit.record().by_generator;
+    totals.injected[0].add(20);
+    totals.bank[0].add(20);
+    unit.class(Class::Normal).bank[0].add(20);
+    let closing = unit.close();
+    assert_eq!((closing.drawn, closing.lapsed), (vec![0, 10], vec![20, 0]));
+}
+
+#[test]
+fn the_closing_before_the_switch_month_ends_the_cycle() {
+    let agreement = Agreement {
+        cycle: 12,
+        months_gone: 3,
+        switch_month: 3,
+        ..Agreement::by_hours(1, 1)
+    };
+    let mut unit = agreement.opened().scheduled(&[40], &[1]);
+    let mut month = |slot, gone| {
+        assert_eq!(unit.record().months_gone.get(), gone);
+        unit.block(&[10], &[0]);
+        unit.block_in(slot, &[0], &[7]);
+        let pending = unit.class(Class::Normal).pending[0].get();
+        let closing = unit.close();
+        (
+            pending,
+            closing.drawn[0],
+            closing.lapsed[0],
+            closing.bank[0],
+        )
+    };
+    // Old rules: off-peak draws what was banked in normal hours.
+    assert_eq!(month(OFF_PEAK, 3), (0, 7, 0, 3));
+    assert_eq!(month(OFF_PEAK, 4), (0, 7, 6, 0));
+    // New rules.
+    assert_eq!(month(OFF_PEAK, 0), (10, 0, 10, 0));
+    assert_eq!(month(NORMAL + 1, 0), (10, 7, 3, 0));
+    assert_eq!(unit.record().months_gone.get(), 0);
+    assert_eq!(unit.record().closings.get(), 4);
+}
+
+#[test]
+fn a_switch_month_far_ahead_changes_nothing_but_its_place() {
+    let run = |switch_month| {
+        let agreement = Agreement {
+            switch_month,
+            ..Agreement::a()
+        };
+        let mut unit = agreement.opened().scheduled(&[100, 200], &[1, 1]);
+        let mut closings = Vec::new();
+        for _ in 0..3 {
+            unit.block(&[70_001], &[20_000, 0]);
+            closings.push(unit.close());
+        }
+        unit.record().switch_month.set(0);
+        (closings, unit.record)
+    };
+    assert!(run(0) == run(5));
+    assert!(run(0) == run(1_200));
+    assert!(run(0).0 != run(3).0);
+}
+
+#[test]
+fn switch_month_1_opens_with_no_month_gone() {
+    let mut agreement = Agreement {
+        months_gone: 1,
+        switch_month: 1,
+        ..Agreement::a()
+    };
+    let mut unit = agreement.opened();
+    assert_eq!(unit.record().months_gone.get(), 0);
+    assert!(unit.is_sound());
+    agreement.switch_month = 2;
+    assert_eq!(agreement.opened().record().months_gone.get(), 1);
+    agreement.switch_month = 1;
+    agreement.months_gone = 2;
+    assert_eq!(agreement.refused(), Refusal::BankTerm);
+}
+
+#[test]
+fn a_scheduled_generator_may_hold_energy_of_a_class() {
+    let mut agreement = Agreement::by_hours(1, 1);
+    agreement.rate = 1_000;
+    let mut unit = agreement.opened().scheduled(&[40], &[1]);
+    unit.block_in(PEAK, &[15], &[0]);
+    unit.record().generator[0].kind.set(0);
+    let closing = unit.close();
+    assert_eq!((closing.charge, closing.lapsed), (vec![2], vec![13]));
+}
+
+/// Two generators and three consumers that bank by hours, with energy in every class.
+fn unit_by_hours() -> Unit {
+    let unit = Agreement::by_hours(2, 3).opened();
+    let mut unit = unit.scheduled(&[10, 10, 10, 10, 0, 0], &[1; 6]);
+    for slot in [NORMAL, PEAK, OFF_PEAK] {
+        unit.block_in(slot, &[9_000, 2_000], &[500, 6_000, 7_000]);
+    }
+    for class in [Class::OffPeak, Class::Normal, Class::Peak] {
+        let totals = unit.class(class);
+        let numbers = [&totals.pending[..2], &totals.open[1..3]].concat();
+        assert!(numbers.iter().all(|number| number.get() > 0), "{class:?}");
+    }
+    assert!(unit.is_sound());
+    unit
+}
+
+fn class_number(unit: &mut Unit, class: usize, place: usize) -> &mut Number {
+    let class_numbers = RECORD_BYTES_BEFORE_HOURS / 8 + 2 + 32 * class;
+    &mut numbers(&mut unit.record)[class_numbers + place]
+}
+
+#[test]
+fn sound_switch_month_and_closings() {
+    let mut unit = Unit::a();
+    for _ in 0..5 {
+        unit.block(&[0], &[0, 0]);
+    }
+    unit.close();
+    unit.block(&[0], &[0, 0]);
+    let mut is_sound = |switch_month, closings| {
+        unit.record().switch_month.set(switch_month);
+        unit.record().closings.set(closings);
+        unit.is_sound()
+    };
+    assert!(is_sound(0, 0) && is_sound(0, 5) && is_sound(7, 5));
+    assert!(is_sound(1_200, 0) && !is_sound(1_201, 0));
+    for closings in [6, u64::MAX, u64::MAX - 1, 1 << 63] {
+        assert!(!is_sound(0, closings) && !is_sound(7, closings));
+    }
+    // One month of the cycle is gone.
+    assert!(is_sound(7, 5) && !is_sound(6, 5) && !is_sound(1, 0));
+    assert!(is_sound(2, 0) && !is_sound(2, 1));
+}
+
+#[test]
+fn sound_classes_are_0_before_the_switch_month() {
+    for switch_month in [0, 2, 1_200] {
+        let mut unit = unit_by_hours();
+        unit.record().switch_month.set(switch_month);
+        assert!(!unit.is_sound());
+        unit.record().by_class = Default::default();
+        assert!(unit.is_sound());
+        for (class, place) in (0..CLASSES).flat_map(|class| (0..32).map(move |p| (class, p))) {
+            class_number(&mut unit, class, place).set(1);
+            assert!(!unit.is_sound());
+            class_number(&mut unit, class, place).set(0);
+        }
+    }
+}
+
+#[test]
+fn sound_classes_add_up_from_the_switch_month_on() {
+    let mut unit = unit_by_hours();
+    for (class, place) in (0..CLASSES).flat_map(|class| (0..32).map(move |p| (class, p))) {
+        let was = class_number(&mut unit, class, place).get();
+        for wrong in [was + 1, was.wrapping_sub(1), was ^ 1 << 63, was + (1 << 62)] {
+            class_number(&mut unit, class, place).set(wrong);
+            assert!(!unit.is_sound());
+        }
+        class_number(&mut unit, class, place).set(was);
+    }
+    for place in [8, 9, 16 + 1, 16 + 2] {
+        class_number(&mut unit, 0, place).add(1);
+        let peak = class_number(&mut unit, 2, place);
+        peak.set(peak.get() - 1);
+        assert!(unit.is_sound());
+    }
+    unit.record().months_gone.set(1);
+    assert!(!unit.is_sound());
+}
+
+#[test]
+fn classes_do_not_add_up_by_an_overflow() {
+    for mores in [
+        [1 << 63, 1 << 63, 0],
+        [0, 1 << 63, 1 << 63],
+        [1 << 62, 1 << 62, 1 << 63],
+        [u64::MAX / 3, u64::MAX / 3, u64::MAX / 3 + 1],
+    ] {
+        for place in 0..32 {
+            let mut unit = unit_by_hours();
+            for (class, more) in mores.into_iter().enumerate() {
+                let number = class_number(&mut unit, class, place);
+                number.set(number.get().wrapping_add(more));
+            }
+            assert!(!unit.is_sound(), "{mores:?} at {place}");
+        }
+    }
 }
 
 /// A day of one reading in every block but those listed.

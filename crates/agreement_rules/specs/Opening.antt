@@ -1,4 +1,5 @@
--- Document 01, "The agreement": opening, refusals 2 to 6. Assumes nothing.
+-- Document 01, "The agreement": opening, refusals 2 to 6; document 02, F-7: the switch month, refusal 19, and "for switch month 1 opening sets
+-- it to 0", of months gone. Assumes nothing.
 use Prim.Native.Nat.{ℕ, _*_, _≤_, _<_}
 use mathlib.Core.Bool.{Bool, _&&_, _||_, not}
 use mathlib.Core.List.{List, [], _∷_}
@@ -9,8 +10,8 @@ use Rattle.lists.specs.Choice.{if_then_else_}
 use Rattle.lists.specs.Tests.{some, within}
 use Rattle.lists.specs.Pairs.{cell}
 use Rattle.lists.specs.Refusals.{firstOf}
-use Rattle.energy.specs.Limits.{mostGenerators, mostConsumers, lastKind, mostCapacity, mostLoss, mostRate, mostCycle}
-use Rattle.record.specs.Book.{Book, noInjection, noConsumption}
+use Rattle.energy.specs.Limits.{mostGenerators, mostConsumers, lastKind, mostCapacity, mostLoss, mostRate, mostCycle, mostSwitch}
+use Rattle.record.specs.Book.{Book, noInjection, noConsumption, noStocks}
 use Rattle.record.specs.Stored.{stored, zeros}
 use Rattle.record.specs.declared.Record.{Record}
 
@@ -21,14 +22,16 @@ pub record Opening : Type 0 where
   pub rate : ℕ
   pub cycle : ℕ
   pub gone : ℕ
+  -- the switch month: the number of the first closing by hours, counted from 1, 0 for never
+  pub switch : ℕ
   -- kind, installed, contracted for each generator
   pub generators : List ℕ
   -- all links, then all losses, each by generator, then consumer
   pub pairs : List ℕ
 
 -- an opening with these arguments
-abbrev pub asked : (G C rate cycle gone : ℕ) (generators pairs : List ℕ) → Opening
-asked G C rate cycle gone generators pairs = record { G = G; C = C; rate = rate; cycle = cycle; gone = gone; generators = generators; pairs = pairs }
+abbrev pub asked : (G C rate cycle gone switch : ℕ) (generators pairs : List ℕ) → Opening
+asked G C rate cycle gone switch generators pairs = record { G = G; C = C; rate = rate; cycle = cycle; gone = gone; switch = switch; generators = generators; pairs = pairs }
 
 -- the counts are in range, and the lists have the lengths that belong to them
 unfoldable pub sizesFit : (G C : ℕ) (generators pairs : List ℕ) → Bool
@@ -38,6 +41,11 @@ sizesFit G C generators pairs =
 -- the bank terms are in range
 unfoldable pub termsFit : (rate cycle gone : ℕ) → Bool
 termsFit rate cycle gone = leb rate mostRate && within 1 mostCycle cycle && ltb gone cycle
+
+-- Months gone at first: where the first closing goes by hours no closing is before it, so opening sets them to 0. Refusal 6 is tested on the
+-- months gone that are given.
+unfoldable pub firstGone : (switch gone : ℕ) → ℕ
+firstGone switch gone = if eqb switch 1 then 0 else gone
 
 module _ (o : Opening) where
   unfoldable pub kindOf : ℕ → ℕ
@@ -65,9 +73,10 @@ module _ (o : Opening) where
       (4, some G (λ g. ltb mostCapacity (installedOf g) || ltb mostCapacity (contractedOf g))) ∷
       (5, some G (λ g. some C (λ c. ltb 1 (linkOf g c) || ltb mostLoss (rateOfLoss g c)))) ∷
       (6, not (termsFit (o .rate) (o .cycle) (o .gone))) ∷
+      (19, ltb mostSwitch (o .switch)) ∷
       [])
 
-  -- no kW scheduled, every rank 1, all counts and totals 0
+  -- no kW scheduled, every rank 1, all counts and totals 0, those of the classes of hours too
   unfoldable pub opened : Book
   opened =
       record {
@@ -85,11 +94,14 @@ module _ (o : Opening) where
             };
         rate = o .rate;
         cycle = o .cycle;
-        gone = o .gone;
+        gone = firstGone (o .switch) (o .gone);
         unitblocks = 0;
         monthblocks = 0;
         gen = λ g. noInjection;
         con = λ c. noConsumption;
+        switch = o .switch;
+        closings = 0;
+        hours = λ k. noStocks;
       }
 
 -- What opening ensures of its number and of the record it returns: a refused opening returns zeros. The contract of opening cites
@@ -115,3 +127,4 @@ pub record Permitted (o : Opening) : Type 0 where
   pub cycle-low : 1 ≤ o .cycle
   pub cycle-high : o .cycle ≤ mostCycle
   pub gone-high : o .gone < o .cycle
+  pub switch-high : o .switch ≤ mostSwitch

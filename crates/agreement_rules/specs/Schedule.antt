@@ -59,6 +59,9 @@ module _ (kws ranks : List ℕ) (b : Book) where
         monthblocks = b .monthblocks;
         gen = b .gen;
         con = b .con;
+        switch = b .switch;
+        closings = b .closings;
+        hours = b .hours;
       }
 
 unfoldable pub scheduleRule : List ℕ → List ℕ → Rule

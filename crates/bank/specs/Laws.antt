@@ -1,2 +1,3 @@
+pub mod CreditLaws
 pub mod BankSteps
 pub mod BankLaws

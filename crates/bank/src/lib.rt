@@ -4,9 +4,10 @@ ghost use mathlib.Core.Bool.{true};
 ghost use Prim.Native.Nat.{_+_};
 ghost use lib.Dec.{leb};
 ghost use Rattle.energy.specs.Limits.{mostFigure};
-ghost use Rattle.closing_rules.specs.Closing.{cycleEnds};
+ghost use Rattle.closing_rules.specs.Closing.{cycleEnds, lapseDue};
 ghost use Rattle.bank.specs.Laws.BankSteps.{creditable, creditOf, creditAnswer, drawAnswer, lapseOf};
 use energy::Wh;
+use record::Switch;
 
 pub struct Bank {
     pub balance: [u64; 8],
@@ -32,7 +33,7 @@ pub struct Lapse {
 }
 
 // Whether a balance and what is pending together are within the bank's limit, tested without adding: a sum could wrap.
-fn within(balance: u64, pending: u64) -> bool
+pub fn within(balance: u64, pending: u64) -> bool
     ensures { λ r. ⌜ r ≡ leb (balance + pending) mostFigure ⌝ }
 {
     if pending <= Bank::MOST_ENERGY {
@@ -109,18 +110,27 @@ impl Bank {
     }
 
     // Whether the month that closes is the last of its cycle, of which so many months were gone before.
-    pub fn cycle_ends(gone: u64, cycle: u64) -> bool
+    fn cycle_ends(gone: u64, cycle: u64) -> bool
         ensures { λ r. ⌜ r ≡ cycleEnds gone cycle ⌝ }
     {
         cycle > 0 && gone == cycle - 1
     }
 
-    // Step 4: at the end of a cycle nothing stays.
-    pub fn lapse(self, gone: u64, cycle: u64) -> Lapse
-        ensures { λ r. ⌜ r ≡ lapseOf self (cycleEnds gone cycle) ⌝ }
+    // Whether every balance lapses in the closing that comes, by the counts before it.
+    pub fn lapse_due(switch: Switch, gone: u64, cycle: u64) -> bool
+        ensures { λ r. ⌜ r ≡ lapseDue (switch .month) (switch .closings) gone cycle ⌝ }
+    {
+        hours::apply(switch.month, switch.closings)
+            | hours::before_switch(switch.month, switch.closings)
+            | Bank::cycle_ends(gone, cycle)
+    }
+
+    // Step 4: where a lapse is due nothing stays.
+    pub fn lapse(self, due: bool) -> Lapse
+        ensures { λ r. ⌜ r ≡ lapseOf self due ⌝ }
     {
         let none = [0u64; 8];
-        if Bank::cycle_ends(gone, cycle) {
+        if due {
             let lapsed = self.balance;
             let bank = Bank { balance: none };
             return Lapse { bank, lapsed };

@@ -1,4 +1,5 @@
 pub mod BlockLaws
+pub mod BlockClasses
 pub mod BlockRefusals
 pub mod BlockRoom
 pub mod BlockSettleable

@@ -1,3 +1,4 @@
 pub mod BlockTotals
 pub mod BlockTotalsLaws
 pub mod BlockAfterLaws
+pub mod BlockAdded

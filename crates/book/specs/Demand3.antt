@@ -1,6 +1,6 @@
 -- Demand 3, over every list of calls on a newly opened unit. Assumes nothing.
 use Prim.Native.Nat.{ℕ, _+_, _*_, _≤_, _<_}
-use mathlib.Core.Bool.{true}
+use mathlib.Core.Bool.{true, false}
 use mathlib.Core.List.{List, [], _∷_, map}
 use mathlib.Core.Logic.{_⊎_}
 use mathlib.Core.Path.{_≡_}
@@ -9,12 +9,13 @@ use lib.ListN.{length, getD, take}
 use Rattle.lists.specs.Choice.{if_then_else_}
 use Rattle.lists.specs.Sums.{sum}
 use Rattle.energy.specs.Limits.{mostFigure}
-use Rattle.record.specs.Book.{Book}
+use Rattle.record.specs.Hours.{classes, peak}
+use Rattle.record.specs.Book.{Book, byHours}
 use Rattle.record.specs.Stored.{figures, stored}
 use Rattle.record.specs.Sound.{sound}
 use Rattle.record.specs.declared.Record.{Record}
 use Rattle.agreement_rules.specs.Opening.{Opening, linkOf, opened, Opened, Permitted}
-use Rattle.closing_rules.specs.Closing.{bankBeforeLapse, supplied}
+use Rattle.closing_rules.specs.Closing.{bankLeft, suppliedOf}
 use Rattle.book.specs.BookCalls.{Call, schedule, block, closing, ruleOf, next, bookAfter, BookAnswer, bookAnswers}
 use Rattle.book.specs.Trace.{Ask, callOf, lentOf, Given, Trace, lastRecord}
 
@@ -31,13 +32,29 @@ pub data Matches : List Ask → List Given → List BookAnswer → Type 0 where
   match-none : Matches [] [] []
   match-one : {a : Ask} {w : Given} {e : BookAnswer} {as′ : List Ask} {ws : List Given} {es : List BookAnswer} → Match a w e → Matches as′ ws es → Matches (a ∷ as′) (w ∷ ws) (e ∷ es)
 
--- In an accepted closing no linked pair's generator still has bank before the lapse while its consumer has energy supplied. Both
--- are the book's, and stand in the output: lapsed plus bank, and the last list.
+-- What a closing's output has of bank before the lapse, which is lapsed plus bank, and of energy supplied, its last list.
+module _ (o : Opening) (out : List ℕ) where
+  abbrev pub bankIn : ℕ → ℕ
+  bankIn g = at out (o .G * o .C + o .G + g) + at out (o .G * o .C + 2 * o .G + g)
+
+  abbrev pub suppliedIn : ℕ → ℕ
+  suppliedIn c = at out (o .G * o .C + 3 * o .G + o .C + c)
+
+-- The last sentence of demand 3, of an accepted closing on book b that put out `out`. For closings by hours document 02, F-7, has another one
+-- in its place.
 pub record NoIdleBank (o : Opening) (b : Book) (out : List ℕ) : Type 0 where
   pub size : length out ≡ o .G * o .C + 3 * o .G + 2 * o .C
-  pub bank-is : (g : ℕ) → g < o .G → at out (o .G * o .C + o .G + g) + at out (o .G * o .C + 2 * o .G + g) ≡ bankBeforeLapse b g
-  pub supplied-is : (c : ℕ) → c < o .C → at out (o .G * o .C + 3 * o .G + o .C + c) ≡ supplied b c
-  pub none-idle : (g c : ℕ) → g < o .G → c < o .C → linkOf o g c ≡ 1 → (bankBeforeLapse b g ≡ 0) ⊎ (supplied b c ≡ 0)
+  -- Both are the book's, as sums over classes: of what step 2 leaves the generator of a class, and of what step 3 supplies the consumer in it.
+  pub bank-is : (g : ℕ) → g < o .G → bankIn o out g ≡ sum classes (λ k. bankLeft b k g)
+  pub supplied-is : (c : ℕ) → c < o .C → suppliedIn o out c ≡ sum classes (λ k. suppliedOf b k c)
+  -- Before the switch month: 'In no accepted closing of the list does a linked pair's generator still have bank before the lapse while its
+  -- consumer has energy supplied by the licensee in that closing.'
+  pub none-idle : byHours b ≡ false → (g c : ℕ) → g < o .G → c < o .C → linkOf o g c ≡ 1 → (bankIn o out g ≡ 0) ⊎ (suppliedIn o out c ≡ 0)
+  -- By hours: 'for no linked pair and no class does the generator still have bank of that class, or of peak, before the lapse while its
+  -- consumer has energy of that class supplied by the licensee in that closing.'
+  pub none-idle-class :
+      byHours b ≡ true → (g c k : ℕ) → g < o .G → c < o .C → k < classes → linkOf o g c ≡ 1 →
+      ((bankLeft b k g ≡ 0) × (bankLeft b peak g ≡ 0)) ⊎ (suppliedOf b k c ≡ 0)
 
 unfoldable pub NotIdleIn : Opening → Book → Call → List ℕ → Type 0
 NotIdleIn o b (schedule kws ranks) out = Unit {0}

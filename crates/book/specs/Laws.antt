@@ -1,2 +1,3 @@
 pub mod Demand3Proof
+pub mod HoursCases
 pub mod BenchCases

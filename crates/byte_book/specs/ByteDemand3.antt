@@ -36,13 +36,13 @@ pub record ByteDemand3 (o : Opening) (asks : List ByteAsk) (ws : List ByteGiven)
   -- all of demand 3 holds of the numbers that the bytes hold
   pub numbers : Demand3 o (map askIn asks) (map givenIn ws) (recordIn s)
 
--- The one claim. Every opening to which no refusal number applies is accepted, whatever the record's 5,752 bytes held before it. For
+-- The one claim. Every opening to which no refusal number applies is accepted, whatever the record's 6,536 bytes held before it. For
 -- every list of calls on the bytes that it left, refused calls included, demand 3 holds after the whole list and after every first n
 -- calls of it.
 abbrev pub ByteClaim : Type 0
 ByteClaim =
-    (G C rate cycle gone : ℕ) (generators pairs : List ℕ) →
-    let o = openingIn G C rate cycle gone generators pairs in
+    (G C rate cycle gone switch : ℕ) (generators pairs : List ℕ) →
+    let o = openingIn G C rate cycle gone switch generators pairs in
     Permitted o →
     (before : List ℕ) → length before ≡ recordBytes →
     (number : ℕ) (s₀ : List ℕ) → ByteOpened o before number s₀ →

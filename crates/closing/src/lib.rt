@@ -2,13 +2,14 @@
 ghost use mathlib.Core.Path.{_≡_};
 ghost use lib.ListN.{length};
 ghost use Rattle.record.specs.Called.{numberOn};
-ghost use Rattle.record_layout.specs.OnBytes.{CalledOn, recordIn};
+ghost use Rattle.record_layout.specs.OnBytes.{CalledOn, bookIn, recordIn};
 ghost use Rattle.record_layout.specs.Laws.RecordHead.{HeadRead};
-ghost use Rattle.closing_rules.specs.Closing.{closingRule, Closed};
+ghost use Rattle.closing_rules.specs.Closing.{closingOutput, closingRule, Closed};
 ghost use Rattle.record_places.specs.RecordSize.{recordBytes};
 use record::Answer;
 use record::Counts;
 use record::Record;
+use record::Switch;
 use record::Terms;
 
 // The number of a closing on the record that the bytes hold, with its terms and counts.
@@ -25,6 +26,18 @@ fn refusal_on(s: &[u8], terms: Terms, counts: Counts, size: usize) -> u32
     }
 }
 
+// The lists of an accepted closing, by hours or before the switch month.
+fn make_lists(s: &[u8], terms: Terms, counts: Counts, switch: Switch, out: &mut [u64])
+    requires { ⌜ HeadRead (now s) terms counts × ((switch ≡ recordIn (now s) .switch) × (numberOn (closingRule (length (now out))) (recordIn (now s)) ≡ 0)) ⌝ }
+    ensures { λ _. ⌜ now (out .exit) ≡ closingOutput (bookIn (now (s .entry))) ⌝ }
+{
+    if hours::apply(switch.month, switch.closings) {
+        closing_by_hours::make(s, terms, out);
+    } else {
+        closing_lists::make(s, terms, counts, switch, out);
+    }
+}
+
 // Closes a month of the record that the bytes hold. The lists are made in the slice of the output, and the totals are entered in the bytes
 // from there.
 pub fn close_on(s: &mut [u8], out: &mut [u64]) -> u32
@@ -35,8 +48,9 @@ pub fn close_on(s: &mut [u8], out: &mut [u64]) -> u32
     let counts = record_bytes::loading::load_counts(s);
     let number = refusal_on(s, terms, counts, out.len());
     if number == 0 {
-        closing_lists::make(s, terms, counts, out);
-        closing_totals::enter(s, terms, counts, out);
+        let switch = record_bytes::loading::load_switch(s);
+        make_lists(s, terms, counts, switch, out);
+        closing_totals::enter(s, terms, counts, switch, out);
         return 0;
     }
     number

@@ -1,9 +1,11 @@
-// The lists of a closing, made in the slice of its output.
+// The lists of a closing before the switch month, made in the slice of its output.
 ghost use mathlib.Core.Path.{_≡_};
+ghost use mathlib.Core.Bool.{false};
 ghost use Prim.Native.Nat.{_*_};
 ghost use lib.ListN.{length};
 ghost use Rattle.lists.specs.Pairs.{place};
 ghost use Rattle.record.specs.Plan.{suppliers};
+ghost use Rattle.record.specs.Hours.{hoursApply};
 ghost use Rattle.record.specs.Called.{numberOn};
 ghost use Rattle.record_places.specs.RecordSize.{recordBytes};
 ghost use Rattle.record_layout.specs.OnBytes.{planIn, bookIn, recordIn};
@@ -14,6 +16,7 @@ ghost use Rattle.closing_lists.specs.Laws.DrawingSteps.{Drawn};
 ghost use Rattle.closing_lists.specs.Laws.ClosingWritten.{OutputRoom, fiveLists};
 use bank::Bank;
 use record::Counts;
+use record::Switch;
 use record::Terms;
 
 // the bank after all consumers have drawn, and what each lacks
@@ -56,7 +59,7 @@ fn draw_all(
 }
 
 // The five lists after drawn's, each into its own stretch.
-fn write_lists(
+pub fn write_lists(
     out: &mut [u64],
     charge: [u64; 8],
     lapsed: [u64; 8],
@@ -80,8 +83,8 @@ fn write_lists(
 }
 
 // Steps 1 to 4 on what the record holds for them, and their lists into the slice.
-pub fn make(s: &[u8], terms: Terms, counts: Counts, out: &mut [u64])
-    requires { ⌜ HeadRead (now s) terms counts × (numberOn (closingRule (length (now out))) (recordIn (now s)) ≡ 0) ⌝ }
+pub fn make(s: &[u8], terms: Terms, counts: Counts, switch: Switch, out: &mut [u64])
+    requires { ⌜ HeadRead (now s) terms counts × ((switch ≡ recordIn (now s) .switch) × ((hoursApply (switch .month) (switch .closings) ≡ false) × (numberOn (closingRule (length (now out))) (recordIn (now s)) ≡ 0))) ⌝ }
     ensures { λ _. ⌜ now (out .exit) ≡ closingOutput (bookIn (now (s .entry))) ⌝ }
 {
     let n = terms.generators as usize;
@@ -96,7 +99,8 @@ pub fn make(s: &[u8], terms: Terms, counts: Counts, out: &mut [u64])
     let drawing = draw_all(s, credit.bank, n, m, outstanding, &mut out[0..size]);
     let supplied = drawing.supplied;
     let drawn_on = drawing.bank;
-    let lapse = drawn_on.lapse(counts.gone, terms.cycle);
+    let due = Bank::lapse_due(switch, counts.gone, terms.cycle);
+    let lapse = drawn_on.lapse(due);
     let lapsed = lapse.lapsed;
     let after = lapse.bank;
     let balance = after.balance;

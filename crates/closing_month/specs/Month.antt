@@ -1,23 +1,27 @@
 -- Document 01, "Closing a month": closing rests on the block account only through its published answer. What it takes up is what the
--- outputs of the month's accepted blocks gave, after every list of calls on a newly opened unit. Assumes nothing.
+-- outputs of the month's accepted blocks gave, after every list of calls on a newly opened unit; by hours (document 02, F-7) it takes up of
+-- each class what those of the blocks of that class gave. Assumes nothing.
 use Prim.Native.Nat.{ℕ, _+_, _*_, _<_}
+use mathlib.Core.Bool.{true}
 use mathlib.Core.List.{List, [], _∷_}
 use mathlib.Core.Path.{_≡_}
 use lib.Dec.{eqb}
 use lib.ListN.{length}
 use Rattle.lists.specs.Choice.{if_then_else_}
+use Rattle.lists.specs.Sums.{sum}
 use Rattle.record.specs.Plan.{deemedKind}
-use Rattle.record.specs.Book.{Book}
+use Rattle.record.specs.Hours.{classes, slotAfter, classOfSlot}
+use Rattle.record.specs.Book.{Book, byHours}
 use Rattle.record.specs.Stored.{figures}
 use Rattle.record.specs.declared.Record.{Record}
 use Rattle.record.specs.declared.Answer.{Answer}
 use Rattle.agreement_rules.specs.Opening.{Opening, kindOf, Opened, Permitted}
 use Rattle.block.specs.BlockAnswer.{underdrawnIn, remainderIn}
-use Rattle.closing_rules.specs.Closing.{takenUp, Closed}
+use Rattle.closing_rules.specs.Closing.{stocksOf, takenUp, Closed}
 use Rattle.book.specs.Trace.{Ask, askSchedule, askBlock, askClosing, Given, Trace, lastRecord}
 use Rattle.book.specs.Demand3.{at}
 
--- ---- the outputs of the accepted blocks since the last accepted closing, or since the opening
+-- ---- the outputs of the accepted blocks since the last accepted closing, or since the opening, the latest first
 
 -- an accepted block adds its output, an accepted closing begins a new month
 unfoldable pub entered : List (List ℕ) → Ask → List ℕ → List (List ℕ)
@@ -36,6 +40,11 @@ monthFrom outs (a ∷ as′) (w ∷ ws) = monthFrom (monthNext outs a w) as′ w
 
 abbrev pub monthOf : List Ask → List Given → List (List ℕ)
 monthOf = monthFrom []
+
+-- those of the blocks of class k: a block's slot follows from how many the month held when it was entered
+unfoldable pub ofClass : ℕ → List (List ℕ) → List (List ℕ)
+ofClass k [] = []
+ofClass k (out ∷ outs) = if eqb k (classOfSlot (slotAfter (length outs))) then out ∷ ofClass k outs else ofClass k outs
 
 -- ---- what they gave
 
@@ -60,11 +69,17 @@ module _ (o : Opening) where
     pub month-is : b .monthblocks ≡ length outs
     pub pending-is : (g : ℕ) → g < o .G → b .gen g .pending ≡ sumOver outs (pendingFrom g)
     pub open-is : (c : ℕ) → c < o .C → b .con c .outstanding ≡ sumOver outs (openFrom c)
+    -- by class, where the month is closed by hours; before the switch month no class holds anything
+    pub class-pending-is : (k g : ℕ) → g < o .G → b .hours k .pending g ≡ (if byHours b then sumOver (ofClass k outs) (pendingFrom g) else 0)
+    pub class-open-is : (k c : ℕ) → c < o .C → b .hours k .outstanding c ≡ (if byHours b then sumOver (ofClass k outs) (openFrom c) else 0)
 
-  -- An accepted closing that left out′ took them up: pending in step 1, and in its output open before step 2.
+  -- An accepted closing that left out′ took them up: pending in step 1, over its classes, and in its output open before step 2.
   pub record ClosingTakes (outs : List (List ℕ)) (b : Book) (out′ : List ℕ) : Type 0 where
-    pub pending-is : (g : ℕ) → g < o .G → takenUp b g ≡ sumOver outs (pendingFrom g)
+    pub pending-is : (g : ℕ) → g < o .G → sum classes (λ k. takenUp b k g) ≡ sumOver outs (pendingFrom g)
     pub open-is : (c : ℕ) → c < o .C → at out′ (o .G * o .C + 3 * o .G + c) ≡ sumOver outs (openFrom c)
+    -- by hours, of class k: pending in step 1, and what a consumer wants in step 2
+    pub class-pending-is : byHours b ≡ true → (k g : ℕ) → g < o .G → takenUp b k g ≡ sumOver (ofClass k outs) (pendingFrom g)
+    pub class-open-is : byHours b ≡ true → (k c : ℕ) → c < o .C → stocksOf b k .outstanding c ≡ sumOver (ofClass k outs) (openFrom c)
 
 -- After every list of calls, refused ones included, on the record that a permitted opening gave.
 abbrev pub MonthClaim : Type 0

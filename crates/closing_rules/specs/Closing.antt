@@ -1,6 +1,8 @@
--- Document 01, "Closing a month": steps 1 to 4, refusal 13, and the call. Assumes nothing.
-use Prim.Native.Nat.{ℕ, _+_, _-_, _*_}
-use mathlib.Core.Bool.{Bool, not}
+-- Document 01, "Closing a month", and document 02, F-7, "Bank by hours": steps 1 to 4, refusal 13, and the call. One closing serves months
+-- before and from the switch month on; FormerClosing says that before it this is document 01's closing, figure by figure.
+-- Assumes nothing.
+use Prim.Native.Nat.{ℕ, _+_, _-_, _*_, _/_, _%_}
+use mathlib.Core.Bool.{Bool, not, _||_}
 use mathlib.Core.List.{List, [], _∷_}
 use lib.Dec.{eqb}
 use lib.ListN.{length}
@@ -11,7 +13,8 @@ use Rattle.lists.specs.Pairs.{pairs, joined}
 use Rattle.lists.specs.Refusals.{firstOf}
 use Rattle.energy.specs.Energy.{portionUp}
 use Rattle.record.specs.Plan.{suppliers}
-use Rattle.record.specs.Book.{Book}
+use Rattle.record.specs.Hours.{classes, peak, hoursApply, beforeSwitch}
+use Rattle.record.specs.Book.{Book, ClassStocks, byHours, noStocks}
 use Rattle.record.specs.Called.{Rule, Called}
 use Rattle.record.specs.declared.Record.{Record}
 use Rattle.record.specs.declared.Answer.{Answer}
@@ -23,38 +26,84 @@ use Rattle.closing_rules.specs.Drawing.{stockAt, drawnAt, missingAt}
 unfoldable pub cycleEnds : (gone cycle : ℕ) → Bool
 cycleEnds gone cycle = eqb (gone + 1) cycle
 
+-- Every bank lapses at the end of a cycle, in the closing just before the switch month, and in every closing by hours.
+unfoldable pub lapseDue : (switch closings gone cycle : ℕ) → Bool
+lapseDue switch closings gone cycle = hoursApply switch closings || beforeSwitch switch closings || cycleEnds gone cycle
+
+-- a generator's energy of a class, and a consumer's turn for a class, as one number each
+abbrev pub source : (g k : ℕ) → ℕ
+source g k = g * classes + k
+
+abbrev pub turn : (c k : ℕ) → ℕ
+turn c k = c * classes + k
+
+-- Of those who serve class k one after another gives first its energy of that class, then its peak energy.
+unfoldable pub sourcesOf : ℕ → List ℕ → List ℕ
+sourcesOf k [] = []
+sourcesOf k (g ∷ gs) = source g k ∷ source g peak ∷ sourcesOf k gs
+
 module _ (b : Book) where
-  -- Step 1: the month's pending is taken up, less a charge on it; what the bank held before is not charged again.
-  unfoldable pub takenUp : ℕ → ℕ
-  takenUp g = b .gen g .pending
+  -- Bank, pending and open by class. Before the switch month there are no classes, and all of it is taken as peak: nothing but peak energy
+  -- serves peak, and nobody wants any other then.
+  unfoldable pub undivided : ClassStocks
+  undivided = record { bank = λ g. b .gen g .bank; pending = λ g. b .gen g .pending; outstanding = λ c. b .con c .outstanding }
 
+  unfoldable pub stocksOf : ℕ → ClassStocks
+  stocksOf k = if byHours b then b .hours k else (if eqb k peak then undivided else noStocks)
+
+  -- Step 1, by class: the month's pending is taken up, less a charge on it, rounded up for each class; what the bank held before is not charged
+  -- again.
+  unfoldable pub takenUp : (k g : ℕ) → ℕ
+  takenUp k g = stocksOf k .pending g
+
+  unfoldable pub chargeOf : (k g : ℕ) → ℕ
+  chargeOf k g = portionUp (takenUp k g) (b .rate)
+
+  unfoldable pub credited : (k g : ℕ) → ℕ
+  credited k g = stocksOf k .bank g + (takenUp k g - chargeOf k g)
+
+  -- Step 2: each consumer in turn settles off-peak, normal, peak; its linked generators give in the inter-se order that stands now.
+  unfoldable pub serving : ℕ → List ℕ
+  serving t = sourcesOf (t % classes) (suppliers (b .plan) (t / classes))
+
+  unfoldable pub stock : ℕ → ℕ
+  stock s = credited (s % classes) (s / classes)
+
+  unfoldable pub want : ℕ → ℕ
+  want t = stocksOf (t % classes) .outstanding (t / classes)
+
+  -- what generator g gives of its class j to consumer c's open of class k
+  unfoldable pub drawnOf : (g j c k : ℕ) → ℕ
+  drawnOf g j c k = drawnAt serving stock want (source g j) (turn c k)
+
+  -- what all turns leave generator g of class k
+  unfoldable pub bankLeft : (k g : ℕ) → ℕ
+  bankLeft k g = stockAt serving stock want (b .plan .C * classes) (source g k)
+
+  -- Step 3, by class: supplied to consumer c by the local licensee.
+  unfoldable pub suppliedOf : (k c : ℕ) → ℕ
+  suppliedOf k c = missingAt serving stock want (turn c k)
+
+  -- What is put out, printed and balanced are sums over classes.
   unfoldable pub charge : ℕ → ℕ
-  charge g = portionUp (takenUp g) (b .rate)
-
-  unfoldable pub credited : ℕ → ℕ
-  credited g = b .gen g .bank + (takenUp g - charge g)
-
-  -- Step 2: the banks when the turn comes to consumer c, and what it draws: its linked generators give in the inter-se order that stands now.
-  unfoldable pub banks : ℕ → ℕ → ℕ
-  banks = stockAt (suppliers (b .plan)) credited (λ c. b .con c .outstanding)
+  charge g = sum classes (λ k. chargeOf k g)
 
   unfoldable pub drawn : ℕ → ℕ → ℕ
-  drawn = drawnAt (suppliers (b .plan)) credited (λ c. b .con c .outstanding)
+  drawn g c = sum classes (λ j. sum classes (λ k. drawnOf g j c k))
 
-  -- Step 3: supplied by the local licensee.
   unfoldable pub supplied : ℕ → ℕ
-  supplied = missingAt (suppliers (b .plan)) credited (λ c. b .con c .outstanding)
-
-  -- Step 4: at the end of the cycle every bank lapses.
-  unfoldable pub lapses : Bool
-  lapses = cycleEnds (b .gone) (b .cycle)
-
-  unfoldable pub goneAfter : ℕ
-  goneAfter = if lapses then 0 else b .gone + 1
+  supplied c = sum classes (λ k. suppliedOf k c)
 
   -- document 01's bank before the lapse ("The book"): what step 2 leaves, in the output lapsed plus bank
   unfoldable pub bankBeforeLapse : ℕ → ℕ
-  bankBeforeLapse g = banks (b .plan .C) g
+  bankBeforeLapse g = sum classes (λ k. bankLeft k g)
+
+  -- Step 4
+  unfoldable pub lapses : Bool
+  lapses = lapseDue (b .switch) (b .closings) (b .gone) (b .cycle)
+
+  unfoldable pub goneAfter : ℕ
+  goneAfter = if lapses then 0 else b .gone + 1
 
   unfoldable pub lapsed : ℕ → ℕ
   lapsed g = if lapses then bankBeforeLapse g else 0
@@ -90,6 +139,7 @@ module _ (b : Book) where
         outstanding = 0;
       }
 
+  -- After a closing no class holds anything: by hours all of it was taken up, drawn or supplied, or has lapsed; before, no class ever does.
   unfoldable pub afterClosing : Book
   afterClosing =
       record {
@@ -101,6 +151,9 @@ module _ (b : Book) where
         monthblocks = 0;
         gen = generatorAfterClosing;
         con = consumerAfterClosing;
+        switch = b .switch;
+        closings = b .closings + 1;
+        hours = λ k. noStocks;
       }
 
   -- drawn by pair; charge, lapsed and bank after step 4 by generator; open before step 2 and supplied by consumer

@@ -1,6 +1,9 @@
+pub mod PeakAlone
 pub mod DrawingLaws
 pub mod ClosingLaws
 pub mod ClosingOutput
 pub mod ClosingRefusals
 pub mod ClosingRoom
 pub mod ClosingBeyond
+pub mod DrawnInOrder
+pub mod FormerClosingProof

@@ -1,3 +1,4 @@
 pub mod Drawing
 pub mod Closing
+pub mod FormerClosing
 pub mod Laws

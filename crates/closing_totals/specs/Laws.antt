@@ -1,3 +1,4 @@
 pub mod ClosingTotals
 pub mod ClosingTotalsLaws
+pub mod ClassesCleared
 pub mod ClosingAfterLaws

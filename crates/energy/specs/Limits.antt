@@ -41,6 +41,10 @@ mostMonthBlocks = 3_360
 abbrev pub mostUnitBlocks : ℕ
 mostUnitBlocks = 10_000_000
 
+-- the latest switch month of the bank by hours (F-7): a century of closings
+abbrev pub mostSwitch : ℕ
+mostSwitch = 1_200
+
 -- Wh that one place meters in the life of a unit: mostReading in each of mostUnitBlocks blocks. No figure of a sound record is more.
 abbrev pub mostFigure : ℕ
 mostFigure = 2_000_000_000_000_000

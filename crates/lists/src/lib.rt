@@ -1,6 +1,7 @@
-// Definitions and laws of lists, sums and tests, and three small functions that the calls use.
+// Definitions and laws of lists, sums and tests, and four small functions that the calls use.
 ghost use mathlib.Core.Path.{_≡_};
 ghost use Rattle.lists.specs.Choice.{if_then_else_};
+ghost use Rattle.lists.specs.Tests.{within};
 
 pub fn wide(x: u32) -> u64
     ensures { λ r. ⌜ r ≡ x ⌝ }
@@ -20,4 +21,10 @@ pub fn only_if(test: bool, x: u64) -> u64
     ensures { λ r. ⌜ r ≡ (if test then x else 0) ⌝ }
 {
     if test { x } else { 0 }
+}
+
+pub fn in_range(low: u64, high: u64, n: u64) -> bool
+    ensures { λ r. ⌜ r ≡ within low high n ⌝ }
+{
+    (low <= n) & (n <= high)
 }

@@ -4,14 +4,45 @@ ghost use Prim.Native.Nat.{_*_, _≤_};
 ghost use lib.ListN.{length};
 ghost use Rattle.codec.specs.Bytes.{encode};
 ghost use Rattle.energy.specs.Limits.{mostGenerators, mostConsumers};
-ghost use Rattle.record.specs.Book.{noInjection, noConsumption};
-ghost use Rattle.record.specs.Stored.{storedGenerators, storedConsumers, stored, zeros};
+ghost use Rattle.record.specs.Book.{noInjection, noConsumption, noStocks};
+ghost use Rattle.record.specs.Stored.{storedGenerators, storedConsumers, storedStocks, stored, zeros};
 ghost use Rattle.record.specs.RecordWords.{words};
 ghost use Rattle.agreement_rules.specs.Opening.{asked, opened, Opened, Permitted};
 ghost use Rattle.agreement_rules.specs.Laws.AgreedReading.{Threes};
-ghost use Rattle.agreement_rules.specs.Laws.AgreedParts.{agreedFrom, linksFrom, firstSchedule};
+ghost use Rattle.agreement_rules.specs.Laws.AgreedParts.{termsFrom, firstCounts, firstSwitch, agreedFrom, linksFrom, firstSchedule};
 ghost use Rattle.agreement_rules.specs.OpenedOn.{OpenedOn};
 ghost use Rattle.record_places.specs.RecordSize.{recordBytes};
+use opening_refusal::refusal;
+
+fn terms_from(n: usize, m: usize, rate: u32, cycle: u32) -> record::Terms
+    ensures { λ r. ⌜ r ≡ termsFrom n m rate cycle ⌝ }
+{
+    record::Terms {
+        generators: n as u64,
+        consumers: m as u64,
+        rate: lists::wide(rate),
+        cycle: lists::wide(cycle),
+    }
+}
+
+// No blocks yet. Months gone are those given, or 0 where the first closing goes by hours.
+fn first_counts(gone: u32, switch: u32) -> record::Counts
+    ensures { λ r. ⌜ r ≡ firstCounts gone switch ⌝ }
+{
+    let first = lists::first(switch == 1, 0, gone);
+    record::Counts {
+        gone: lists::wide(first),
+        unitblocks: 0,
+        monthblocks: 0,
+    }
+}
+
+fn first_switch(switch: u32) -> record::Switch
+    ensures { λ r. ⌜ r ≡ firstSwitch switch ⌝ }
+{
+    let month = lists::wide(switch);
+    record::Switch { month, closings: 0 }
+}
 
 fn agreed_from(n: usize, list: &[u32]) -> record::Agreed
     requires { ⌜ Threes (now list) n 0 ⌝ }
@@ -79,6 +110,17 @@ fn no_consumption() -> record::Consumers
     }
 }
 
+fn no_stocks() -> record::Stocks
+    ensures { λ r. ⌜ r ≡ storedStocks noStocks ⌝ }
+{
+    let none = [0u64; 8];
+    record::Stocks {
+        bank: none,
+        pending: none,
+        outstanding: [0u64; 16],
+    }
+}
+
 fn zero_record() -> record::Record
     ensures { λ r. ⌜ r ≡ zeros ⌝ }
 {
@@ -87,17 +129,8 @@ fn zero_record() -> record::Record
     let loss = [0u64; 128];
     let kw = [0u64; 128];
     let rank = [0u64; 128];
-    let terms = record::Terms {
-        generators: 0,
-        consumers: 0,
-        rate: 0,
-        cycle: 0,
-    };
-    let counts = record::Counts {
-        gone: 0,
-        unitblocks: 0,
-        monthblocks: 0,
-    };
+    let terms = terms_from(0, 0, 0, 0);
+    let counts = first_counts(0, 0);
     let agreed = record::Agreed {
         kind: none,
         installed: none,
@@ -107,6 +140,8 @@ fn zero_record() -> record::Record
     let schedule = record::Schedule { kw, rank };
     let generators = no_injection();
     let consumers = no_consumption();
+    let switch = first_switch(0);
+    let stocks = no_stocks();
     record::Record {
         terms,
         counts,
@@ -115,6 +150,10 @@ fn zero_record() -> record::Record
         schedule,
         generators,
         consumers,
+        switch,
+        offpeak: stocks,
+        normal: stocks,
+        peak: stocks,
     }
 }
 
@@ -125,25 +164,17 @@ fn store_opened(
     rate: u32,
     cycle: u32,
     gone: u32,
+    switch: u32,
     generator_list: &[u32],
     pair_list: &[u32],
     s: &mut [u8],
 )
-    requires { ⌜ Permitted (asked n m rate cycle gone (now «generator_list») (now «pair_list»)) × (length (now s) ≡ recordBytes) ⌝ }
-    ensures { λ _. ⌜ now (s .exit) ≡ encode 8 (words (stored (opened (asked n m rate cycle gone (now («generator_list» .entry)) (now («pair_list» .entry)))))) ⌝ }
+    requires { ⌜ Permitted (asked n m rate cycle gone switch (now «generator_list») (now «pair_list»)) × (length (now s) ≡ recordBytes) ⌝ }
+    ensures { λ _. ⌜ now (s .exit) ≡ encode 8 (words (stored (opened (asked n m rate cycle gone switch (now («generator_list» .entry)) (now («pair_list» .entry)))))) ⌝ }
 {
-    let terms = record::Terms {
-        generators: n as u64,
-        consumers: m as u64,
-        rate: lists::wide(rate),
-        cycle: lists::wide(cycle),
-    };
+    let terms = terms_from(n, m, rate, cycle);
     record_bytes::storing::store_terms(terms, s);
-    let counts = record::Counts {
-        gone: lists::wide(gone),
-        unitblocks: 0,
-        monthblocks: 0,
-    };
+    let counts = first_counts(gone, switch);
     record_bytes::storing::store_counts(counts, s);
     let agreed = agreed_from(n, generator_list);
     record_bytes::storing::store_agreed(agreed, s);
@@ -155,6 +186,12 @@ fn store_opened(
     record_bytes::storing::store_generators(generators, s);
     let consumers = no_consumption();
     record_bytes::storing::store_consumers(consumers, s);
+    let first = first_switch(switch);
+    record_bytes::storing::store_switch(first, s);
+    let stocks = no_stocks();
+    record_bytes::storing::store_stocks(stocks, s, record_places::OFF_PEAK);
+    record_bytes::storing::store_stocks(stocks, s, record_places::NORMAL);
+    record_bytes::storing::store_stocks(stocks, s, record_places::PEAK);
 }
 
 // Opens a unit in a record's bytes, whatever they hold; a refused opening leaves them as they were.
@@ -164,18 +201,29 @@ pub fn opening_on(
     rate: u32,
     cycle: u32,
     gone: u32,
+    switch: u32,
     generator_list: &[u32],
     pair_list: &[u32],
     s: &mut [u8],
 ) -> u32
     requires { ⌜ length (now s) ≡ recordBytes ⌝ }
-    ensures { λ r. ⌜ OpenedOn (asked generators consumers rate cycle gone (now («generator_list» .entry)) (now («pair_list» .entry))) (now (s .entry)) r (now (s .exit)) ⌝ }
+    ensures { λ r. ⌜ OpenedOn (asked generators consumers rate cycle gone switch (now («generator_list» .entry)) (now («pair_list» .entry))) (now (s .entry)) r (now (s .exit)) ⌝ }
 {
     let n = generators as usize;
     let m = consumers as usize;
-    let number = opening_refusal::refusal(n, m, rate, cycle, gone, generator_list, pair_list);
+    let number = refusal(n, m, rate, cycle, gone, switch, generator_list, pair_list);
     if number == 0 {
-        store_opened(n, m, rate, cycle, gone, generator_list, pair_list, s);
+        store_opened(
+            n,
+            m,
+            rate,
+            cycle,
+            gone,
+            switch,
+            generator_list,
+            pair_list,
+            s,
+        );
         return 0;
     }
     number
@@ -188,10 +236,11 @@ pub fn opening(
     rate: u32,
     cycle: u32,
     gone: u32,
+    switch: u32,
     generator_list: &[u32],
     pair_list: &[u32],
 ) -> record::Answer
-    ensures { λ a. ⌜ Opened (asked generators consumers rate cycle gone (now («generator_list» .entry)) (now («pair_list» .entry))) (a .number) (a .after) ⌝ }
+    ensures { λ a. ⌜ Opened (asked generators consumers rate cycle gone switch (now («generator_list» .entry)) (now («pair_list» .entry))) (a .number) (a .after) ⌝ }
 {
     let mut s = [0u8; record_places::RECORD_BYTES];
     let number = opening_on(
@@ -200,6 +249,7 @@ pub fn opening(
         rate,
         cycle,
         gone,
+        switch,
         generator_list,
         pair_list,
         &mut s,

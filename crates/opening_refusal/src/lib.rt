@@ -20,17 +20,18 @@ fn terms_fit(rate: u32, cycle: u32, gone: u32) -> bool
         & (gone < cycle)
 }
 
-// The number of an opening: 3 to 6 are tested where the lists have the lengths that are read.
+// The number of an opening: 3 to 6 and 19 are tested where the lists have the lengths that are read.
 pub fn refusal(
     n: usize,
     m: usize,
     rate: u32,
     cycle: u32,
     gone: u32,
+    switch: u32,
     generator_list: &[u32],
     pair_list: &[u32],
 ) -> u32
-    ensures { λ r. ⌜ r ≡ openingRefusal (asked n m rate cycle gone (now («generator_list» .entry)) (now («pair_list» .entry))) ⌝ }
+    ensures { λ r. ⌜ r ≡ openingRefusal (asked n m rate cycle gone switch (now («generator_list» .entry)) (now («pair_list» .entry))) ⌝ }
 {
     if sizes_fit(n, m, generator_list, pair_list) {
         let count = n * m;
@@ -40,8 +41,10 @@ pub fn refusal(
         let pair = agreed_lists::any_outside(pair_list, 0, count, 0, 1)
             | agreed_lists::any_outside(pair_list, count, count, 0, record::MOST_LOSS);
         let term = !terms_fit(rate, cycle, gone);
-        let later = lists::first(pair, 5, lists::first(term, 6, 0));
-        lists::first(kind, 3, lists::first(capacity, 4, later))
+        let late = lists::wide(switch) > record::MOST_SWITCH;
+        let last = lists::first(term, 6, lists::first(late, 19, 0));
+        let later = lists::first(capacity, 4, lists::first(pair, 5, last));
+        lists::first(kind, 3, later)
     } else {
         2
     }

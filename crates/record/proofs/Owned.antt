@@ -15,6 +15,9 @@ shaped r o =
     let schedule = o .1 .1 .1 .1 .0 .1 .1 in
     let generators = o .1 .1 .1 .1 .1 .0 .1 .1 in
     let consumers = o .1 .1 .1 .1 .1 .1 .0 .1 .1 in
+    let offpeak = o .1 .1 .1 .1 .1 .1 .1 .1 .0 .1 .1 in
+    let normal = o .1 .1 .1 .1 .1 .1 .1 .1 .1 .0 .1 .1 in
+    let peak = o .1 .1 .1 .1 .1 .1 .1 .1 .1 .1 .0 .1 .1 in
     record {
       agreed =
           record {
@@ -45,5 +48,23 @@ shaped r o =
             drawn = length-unmapped ℕ (r .consumers .drawn) 16 (consumers .1 .1 .1 .0 .1 .0 .1);
             supplied = length-unmapped ℕ (r .consumers .supplied) 16 (consumers .1 .1 .1 .1 .0 .1 .0 .1);
             outstanding = length-unmapped ℕ (r .consumers .outstanding) 16 (consumers .1 .1 .1 .1 .1 .0 .1 .0 .1);
+          };
+      offpeak =
+          record {
+            bank = length-unmapped ℕ (r .offpeak .bank) 8 (offpeak .0 .1 .0 .1);
+            pending = length-unmapped ℕ (r .offpeak .pending) 8 (offpeak .1 .0 .1 .0 .1);
+            outstanding = length-unmapped ℕ (r .offpeak .outstanding) 16 (offpeak .1 .1 .0 .1 .0 .1);
+          };
+      normal =
+          record {
+            bank = length-unmapped ℕ (r .normal .bank) 8 (normal .0 .1 .0 .1);
+            pending = length-unmapped ℕ (r .normal .pending) 8 (normal .1 .0 .1 .0 .1);
+            outstanding = length-unmapped ℕ (r .normal .outstanding) 16 (normal .1 .1 .0 .1 .0 .1);
+          };
+      peak =
+          record {
+            bank = length-unmapped ℕ (r .peak .bank) 8 (peak .0 .1 .0 .1);
+            pending = length-unmapped ℕ (r .peak .pending) 8 (peak .1 .0 .1 .0 .1);
+            outstanding = length-unmapped ℕ (r .peak .outstanding) 16 (peak .1 .1 .0 .1 .0 .1);
           };
     }

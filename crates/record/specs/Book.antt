@@ -1,8 +1,16 @@
 -- The book: the figures that the record lists. Generators and consumers are counted from 0. Assumes nothing.
 use Prim.Native.Nat.{ℕ, _+_}
+use mathlib.Core.Bool.{Bool}
 use Rattle.record.specs.Plan.{Plan}
+use Rattle.record.specs.Hours.{hoursApply}
 use Rattle.record.specs.declared.GeneratorTerms.{GeneratorTerms}
 use Rattle.record.specs.declared.ConsumerTerms.{ConsumerTerms}
+
+-- what is held of one class of hours (F-7): bank and pending by generator, open by consumer
+pub record ClassStocks : Type 0 where
+  pub bank : ℕ → ℕ
+  pub pending : ℕ → ℕ
+  pub outstanding : ℕ → ℕ
 
 pub record Book : Type 0 where
   -- the agreement's generators and pairs, and the schedule that stands
@@ -17,6 +25,15 @@ pub record Book : Type 0 where
   -- the terms of both equations
   pub gen : ℕ → GeneratorTerms
   pub con : ℕ → ConsumerTerms
+  -- the switch month of the bank by hours, and the closings done
+  pub switch : ℕ
+  pub closings : ℕ
+  -- by class
+  pub hours : ℕ → ClassStocks
+
+-- whether its next closing, and the blocks until then, go by hours
+abbrev pub byHours : Book → Bool
+byHours b = hoursApply (b .switch) (b .closings)
 
 -- Injected is split into these (demand 3).
 abbrev pub splitOfInjected : GeneratorTerms → ℕ
@@ -32,3 +49,6 @@ noInjection = record { injected = 0; unaccounted = 0; lost = 0; setoff = 0; inad
 
 unfoldable pub noConsumption : ConsumerTerms
 noConsumption = record { metered = 0; setoff = 0; shortfall = 0; drawn = 0; supplied = 0; outstanding = 0 }
+
+unfoldable pub noStocks : ClassStocks
+noStocks = record { bank = λ g. 0; pending = λ g. 0; outstanding = λ c. 0 }

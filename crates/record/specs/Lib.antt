@@ -1,4 +1,5 @@
 pub mod Plan
+pub mod Hours
 pub mod Book
 pub mod Stored
 pub mod RecordWords

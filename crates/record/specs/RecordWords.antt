@@ -1,4 +1,4 @@
--- Document 01, "The record": its numbers in their order. Assumes nothing.
+-- Document 01, "The record", and document 02, F-7: its numbers in their order. Assumes nothing.
 use Prim.Native.Nat.{ℕ, zero, suc, _+_}
 use mathlib.Core.List.{List, [], _∷_}
 use lib.ListN.{getD, take, drop}
@@ -20,15 +20,20 @@ runs r =
     let n = r .counts in
     let x = r .generators in
     let y = r .consumers in
+    let o = r .offpeak in
+    let m = r .normal in
+    let p = r .peak in
     (t .generators ∷ t .consumers ∷ t .rate ∷ t .cycle ∷ n .gone ∷ n .unitblocks ∷ n .monthblocks ∷ []) ∷
     pairs 8 3 (agreedOf (r .agreed)) ∷
     r .links .link ∷ r .links .loss ∷ r .schedule .kw ∷ r .schedule .rank ∷
     x .injected ∷ x .unaccounted ∷ x .lost ∷ x .setoff ∷ x .inadvertent ∷ x .charge ∷ x .drawn ∷ x .lapsed ∷ x .bank ∷ x .pending ∷
     y .metered ∷ y .setoff ∷ y .shortfall ∷ y .drawn ∷ y .supplied ∷ y .outstanding ∷
+    (r .switch .month ∷ r .switch .closings ∷ []) ∷
+    o .bank ∷ o .pending ∷ o .outstanding ∷ m .bank ∷ m .pending ∷ m .outstanding ∷ p .bank ∷ p .pending ∷ p .outstanding ∷
     []
 
 unfoldable pub runLengths : List ℕ
-runLengths = 7 ∷ 24 ∷ 128 ∷ 128 ∷ 128 ∷ 128 ∷ 8 ∷ 8 ∷ 8 ∷ 8 ∷ 8 ∷ 8 ∷ 8 ∷ 8 ∷ 8 ∷ 8 ∷ 16 ∷ 16 ∷ 16 ∷ 16 ∷ 16 ∷ 16 ∷ []
+runLengths = 7 ∷ 24 ∷ 128 ∷ 128 ∷ 128 ∷ 128 ∷ 8 ∷ 8 ∷ 8 ∷ 8 ∷ 8 ∷ 8 ∷ 8 ∷ 8 ∷ 8 ∷ 8 ∷ 16 ∷ 16 ∷ 16 ∷ 16 ∷ 16 ∷ 16 ∷ 2 ∷ 8 ∷ 8 ∷ 16 ∷ 8 ∷ 8 ∷ 16 ∷ 8 ∷ 8 ∷ 16 ∷ []
 
 unfoldable pub total : List ℕ → ℕ
 total [] = 0
@@ -68,6 +73,10 @@ fromRuns p =
             pending = at 15;
           };
       consumers = record { metered = at 16; setoff = at 17; shortfall = at 18; drawn = at 19; supplied = at 20; outstanding = at 21 };
+      switch = record { month = getD (at 22) 0 0; closings = getD (at 22) 1 0 };
+      offpeak = record { bank = at 23; pending = at 24; outstanding = at 25 };
+      normal = record { bank = at 26; pending = at 27; outstanding = at 28 };
+      peak = record { bank = at 29; pending = at 30; outstanding = at 31 };
     }
 
 unfoldable pub recordOf : List ℕ → Record

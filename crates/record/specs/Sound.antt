@@ -1,12 +1,14 @@
--- Document 01, "The record": what a sound record is. Assumes nothing.
-use Prim.Native.Nat.{ℕ, _*_}
-use mathlib.Core.Bool.{Bool, _&&_, _||_}
+-- Document 01, "The record", and document 02, F-7: what a sound record is. Assumes nothing.
+use Prim.Native.Nat.{ℕ, _+_, _*_}
+use mathlib.Core.Bool.{Bool, _&&_, _||_, not}
 use lib.Dec.{eqb, leb, ltb}
 use Rattle.lists.specs.Choice.{if_then_else_}
+use Rattle.lists.specs.Sums.{sum}
 use Rattle.lists.specs.Tests.{all, within}
-use Rattle.energy.specs.Limits.{mostGenerators, mostConsumers, lastKind, mostCapacity, mostLoss, mostRate, mostCycle, mostRank, mostReading, mostMonthBlocks, mostUnitBlocks}
+use Rattle.energy.specs.Limits.{mostGenerators, mostConsumers, lastKind, mostCapacity, mostLoss, mostRate, mostCycle, mostRank, mostReading, mostMonthBlocks, mostUnitBlocks, mostSwitch}
 use Rattle.record.specs.Plan.{lowerCapacity, scheduled}
-use Rattle.record.specs.Book.{Book, splitOfInjected, splitOfMetered}
+use Rattle.record.specs.Hours.{classes}
+use Rattle.record.specs.Book.{Book, byHours, splitOfInjected, splitOfMetered}
 use Rattle.record.specs.declared.GeneratorTerms.{GeneratorTerms}
 use Rattle.record.specs.declared.ConsumerTerms.{ConsumerTerms}
 
@@ -37,7 +39,32 @@ generatorSound unitblocks inside x = leb (x .injected) (limit inside (mostReadin
 unfoldable pub consumerSound : ℕ → Bool → ConsumerTerms → Bool
 consumerSound unitblocks inside x = leb (x .metered) (limit inside (mostReading * unitblocks)) && eqb (x .metered) (splitOfMetered x)
 
+-- F-7: the range of the switch month; closings done and month blocks are at most unit blocks; by hours, months gone are 0
+unfoldable pub switchSound : (hours : Bool) (switch closings gone unitblocks monthblocks : ℕ) → Bool
+switchSound hours switch closings gone unitblocks monthblocks =
+    leb switch mostSwitch && leb (closings + monthblocks) unitblocks && (not hours || eqb gone 0)
+
+-- F-7, of one place of bank, pending or open and the sum of its three classes: by hours the place is that sum; before, the class places
+-- are 0, and so is their sum
+unfoldable pub classesSound : (hours : Bool) (whole total : ℕ) → Bool
+classesSound hours whole total = eqb total (limit hours whole)
+
 module _ (b : Book) where
+  unfoldable pub bankTotal : ℕ → ℕ
+  bankTotal g = sum classes (λ k. b .hours k .bank g)
+
+  unfoldable pub pendingTotal : ℕ → ℕ
+  pendingTotal g = sum classes (λ k. b .hours k .pending g)
+
+  unfoldable pub openTotal : ℕ → ℕ
+  openTotal c = sum classes (λ k. b .hours k .outstanding c)
+
+  unfoldable pub generatorHours : ℕ → Bool
+  generatorHours g = classesSound (byHours b) (b .gen g .bank) (bankTotal g) && classesSound (byHours b) (b .gen g .pending) (pendingTotal g)
+
+  unfoldable pub consumerHours : ℕ → Bool
+  consumerHours c = classesSound (byHours b) (b .con c .outstanding) (openTotal c)
+
   unfoldable pub sound : Bool
   sound =
       let p = b .plan in
@@ -47,4 +74,7 @@ module _ (b : Book) where
       (all 8 (λ g. agreedSound (inG g) (p .kind g) (p .installed g) (p .contracted g) (scheduled p g)) &&
       all 8 (λ g. all 16 (λ c. pairSound (inG g && inC c) (p .link g c) (p .loss g c) (p .kw g c) (p .rank g c))) &&
       all 8 (λ g. generatorSound (b .unitblocks) (inG g) (b .gen g)) &&
-      all 16 (λ c. consumerSound (b .unitblocks) (inC c) (b .con c)))
+      all 16 (λ c. consumerSound (b .unitblocks) (inC c) (b .con c)) &&
+      switchSound (byHours b) (b .switch) (b .closings) (b .gone) (b .unitblocks) (b .monthblocks) &&
+      all 8 generatorHours &&
+      all 16 consumerHours)

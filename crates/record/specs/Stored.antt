@@ -1,12 +1,13 @@
 -- The record as stored, and its figures. Assumes nothing.
-use Prim.Native.Nat.{ℕ}
+use Prim.Native.Nat.{ℕ, zero, suc}
 use Rattle.lists.specs.Tables.{table}
 use Rattle.lists.specs.Pairs.{place, cell, pairs}
 use Rattle.record.specs.Plan.{Plan}
-use Rattle.record.specs.Book.{Book, noInjection, noConsumption}
+use Rattle.record.specs.Book.{Book, ClassStocks, noInjection, noConsumption, noStocks}
 use Rattle.record.specs.declared.Record.{Record}
 use Rattle.record.specs.declared.Generators.{Generators}
 use Rattle.record.specs.declared.Consumers.{Consumers}
+use Rattle.record.specs.declared.Stocks.{Stocks}
 use Rattle.record.specs.declared.GeneratorTerms.{GeneratorTerms}
 use Rattle.record.specs.declared.ConsumerTerms.{ConsumerTerms}
 
@@ -37,6 +38,16 @@ consumerAt t c =
       outstanding = place 16 (t .outstanding) c;
     }
 
+unfoldable pub classAt : Stocks → ClassStocks
+classAt t = record { bank = place 8 (t .bank); pending = place 8 (t .pending); outstanding = place 16 (t .outstanding) }
+
+-- off-peak, normal, peak
+unfoldable pub hoursOf : Record → ℕ → ClassStocks
+hoursOf r zero = classAt (r .offpeak)
+hoursOf r (suc zero) = classAt (r .normal)
+hoursOf r (suc (suc zero)) = classAt (r .peak)
+hoursOf r (suc (suc (suc k))) = noStocks
+
 -- the figures of a stored record
 unfoldable pub planOf : Record → Plan
 planOf r =
@@ -63,6 +74,9 @@ figures r =
       monthblocks = r .counts .monthblocks;
       gen = generatorAt (r .generators);
       con = consumerAt (r .consumers);
+      switch = r .switch .month;
+      closings = r .switch .closings;
+      hours = hoursOf r;
     }
 
 -- the stored record of a book's figures
@@ -92,6 +106,9 @@ storedConsumers con =
       outstanding = table 16 (λ c. con c .outstanding);
     }
 
+unfoldable pub storedStocks : ClassStocks → Stocks
+storedStocks t = record { bank = table 8 (t .bank); pending = table 8 (t .pending); outstanding = table 16 (t .outstanding) }
+
 unfoldable pub stored : Book → Record
 stored b =
     let p = b .plan in
@@ -103,6 +120,10 @@ stored b =
       schedule = record { kw = pairs 8 16 (p .kw); rank = pairs 8 16 (p .rank) };
       generators = storedGenerators (b .gen);
       consumers = storedConsumers (b .con);
+      switch = record { month = b .switch; closings = b .closings };
+      offpeak = storedStocks (b .hours 0);
+      normal = storedStocks (b .hours 1);
+      peak = storedStocks (b .hours 2);
     }
 
 -- the record of zeros that a refused opening returns
@@ -129,4 +150,7 @@ zeros =
       monthblocks = 0;
       gen = λ g. noInjection;
       con = λ c. noConsumption;
+      switch = 0;
+      closings = 0;
+      hours = λ k. noStocks;
     })

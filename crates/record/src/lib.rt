@@ -58,6 +58,19 @@ pub struct Consumers {
     pub outstanding: [u64; 16],
 }
 
+// the switch month of the bank by hours, 0 for never, and the closings done since the opening
+pub struct Switch {
+    pub month: u64,
+    pub closings: u64,
+}
+
+// what is held of one class of hours: bank and pending by generator, open by consumer
+pub struct Stocks {
+    pub bank: [u64; 8],
+    pub pending: [u64; 8],
+    pub outstanding: [u64; 16],
+}
+
 pub struct Record {
     pub terms: Terms,
     pub counts: Counts,
@@ -66,6 +79,10 @@ pub struct Record {
     pub schedule: Schedule,
     pub generators: Generators,
     pub consumers: Consumers,
+    pub switch: Switch,
+    pub offpeak: Stocks,
+    pub normal: Stocks,
+    pub peak: Stocks,
 }
 
 // what a call returns: its number on the display, and the record after it
@@ -121,3 +138,6 @@ pub const MOST_RANK: u64 = 255;
 pub const MOST_MONTH_BLOCKS: u64 = 3_360;
 
 pub const MOST_UNIT_BLOCKS: u64 = 10_000_000;
+
+// the latest switch month of the bank by hours
+pub const MOST_SWITCH: u64 = 1_200;

@@ -2,7 +2,7 @@
 ghost use mathlib.Core.Path.{_≡_};
 ghost use Prim.Native.Nat.{_+_, _≤_};
 ghost use lib.ListN.{length};
-ghost use Rattle.record_layout.specs.Laws.Layout.{run};
+ghost use Rattle.record_layout.specs.Laws.Layout.{run, stocksRead};
 ghost use Rattle.record_places.specs.RecordSize.{recordNumbers, recordBytes, wordsIn};
 ghost use Rattle.record_layout.specs.OnBytes.{recordIn};
 
@@ -153,6 +153,33 @@ fn load_consumers(s: &[u8]) -> record::Consumers
     }
 }
 
+pub fn load_switch(s: &[u8]) -> record::Switch
+    requires { ⌜ length (now s) ≡ recordBytes ⌝ }
+    ensures { λ r. ⌜ r ≡ recordIn (now (s .entry)) .switch ⌝ }
+{
+    let mut pair = [0u64; 2];
+    load_run(s, record_places::SWITCH_MONTH, &mut pair);
+    record::Switch {
+        month: pair[0],
+        closings: pair[1],
+    }
+}
+
+// Bank, pending and open of the class whose bank starts at place `at`.
+pub fn load_stocks(s: &[u8], at: usize) -> record::Stocks
+    requires { ⌜ (length (now s) ≡ recordBytes) × (at + 32 ≤ recordNumbers) ⌝ }
+    ensures { λ r. ⌜ r ≡ stocksRead (wordsIn (now (s .entry))) at ⌝ }
+{
+    let bank = load8(s, at);
+    let pending = load8(s, at + record_places::CLASS_PENDING);
+    let outstanding = load16(s, at + record_places::CLASS_OUTSTANDING);
+    record::Stocks {
+        bank,
+        pending,
+        outstanding,
+    }
+}
+
 pub fn load(s: &[u8]) -> record::Record
     requires { ⌜ length (now s) ≡ recordBytes ⌝ }
     ensures { λ r. ⌜ r ≡ recordIn (now (s .entry)) ⌝ }
@@ -164,6 +191,10 @@ pub fn load(s: &[u8]) -> record::Record
     let schedule = load_schedule(s);
     let generators = load_generators(s);
     let consumers = load_consumers(s);
+    let switch = load_switch(s);
+    let offpeak = load_stocks(s, record_places::OFF_PEAK);
+    let normal = load_stocks(s, record_places::NORMAL);
+    let peak = load_stocks(s, record_places::PEAK);
     record::Record {
         terms,
         counts,
@@ -172,5 +203,9 @@ pub fn load(s: &[u8]) -> record::Record
         schedule,
         generators,
         consumers,
+        switch,
+        offpeak,
+        normal,
+        peak,
     }
 }

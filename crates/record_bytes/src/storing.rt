@@ -4,9 +4,9 @@ ghost use Prim.Native.Nat.{_+_, _≤_};
 ghost use lib.ListN.{length};
 ghost use Rattle.codec.specs.Bytes.{encode};
 ghost use Rattle.record.specs.RecordWords.{words};
-ghost use Rattle.record_layout.specs.Laws.Layout.{Laid, termsRun, countsRun, agreedRun, linksRun, scheduleRun, generatorsRun, consumersRun};
+ghost use Rattle.record_layout.specs.Laws.Layout.{Laid, termsRun, countsRun, agreedRun, linksRun, scheduleRun, generatorsRun, consumersRun, switchRun, stocksRun};
 ghost use Rattle.record_places.specs.RecordSize.{recordNumbers, recordBytes};
-ghost use Rattle.record_places.specs.Laws.Places.{generatorCountAt, goneAt, agreedAt, linkAt, kwAt, injectedAt, meteredAt, totalsEnd};
+ghost use Rattle.record_places.specs.Laws.Places.{generatorCountAt, goneAt, agreedAt, linkAt, kwAt, injectedAt, meteredAt, switchMonthAt, offPeakAt};
 ghost use Rattle.record_layout.specs.OnBytes.{recordIn};
 
 // A list of the record, from place `at` on.
@@ -75,7 +75,7 @@ pub fn store_generators(t: record::Generators, s: &mut [u8])
 
 pub fn store_consumers(t: record::Consumers, s: &mut [u8])
     requires { ⌜ length (now s) ≡ recordBytes ⌝ }
-    ensures { λ _. ⌜ Laid meteredAt totalsEnd (consumersRun t) (now (s .entry)) (now (s .exit)) ⌝ }
+    ensures { λ _. ⌜ Laid meteredAt switchMonthAt (consumersRun t) (now (s .entry)) (now (s .exit)) ⌝ }
 {
     store_run(&t.metered, s, record_places::METERED);
     store_run(&t.setoff, s, record_places::CONSUMER_SET_OFF);
@@ -83,6 +83,24 @@ pub fn store_consumers(t: record::Consumers, s: &mut [u8])
     store_run(&t.drawn, s, record_places::CONSUMER_DRAWN);
     store_run(&t.supplied, s, record_places::SUPPLIED);
     store_run(&t.outstanding, s, record_places::OUTSTANDING);
+}
+
+pub fn store_switch(t: record::Switch, s: &mut [u8])
+    requires { ⌜ length (now s) ≡ recordBytes ⌝ }
+    ensures { λ _. ⌜ Laid switchMonthAt offPeakAt (switchRun t) (now (s .entry)) (now (s .exit)) ⌝ }
+{
+    let run = [t.month, t.closings];
+    store_run(&run, s, record_places::SWITCH_MONTH);
+}
+
+// Bank, pending and open of a class, whose bank starts at place `at`.
+pub fn store_stocks(t: record::Stocks, s: &mut [u8], at: usize)
+    requires { ⌜ (length (now s) ≡ recordBytes) × (at + 32 ≤ recordNumbers) ⌝ }
+    ensures { λ _. ⌜ Laid at (at + 32) (stocksRun t) (now (s .entry)) (now (s .exit)) ⌝ }
+{
+    store_run(&t.bank, s, at);
+    store_run(&t.pending, s, at + record_places::CLASS_PENDING);
+    store_run(&t.outstanding, s, at + record_places::CLASS_OUTSTANDING);
 }
 
 pub fn store(r: record::Record, s: &mut [u8])
@@ -96,4 +114,8 @@ pub fn store(r: record::Record, s: &mut [u8])
     store_schedule(r.schedule, s);
     store_generators(r.generators, s);
     store_consumers(r.consumers, s);
+    store_switch(r.switch, s);
+    store_stocks(r.offpeak, s, record_places::OFF_PEAK);
+    store_stocks(r.normal, s, record_places::NORMAL);
+    store_stocks(r.peak, s, record_places::PEAK);
 }

@@ -1,6 +1,6 @@
 // The record's size, and where each number of the terms and the counts stands and each list starts, counted in numbers. The same names for
 // contracts and proofs are in specs/; crate record has the laws that tie them to the runs of the record.
-pub const RECORD_NUMBERS: usize = 719;
+pub const RECORD_NUMBERS: usize = 817;
 
 // Every number has 8 bytes, low byte first.
 pub const RECORD_BYTES: usize = 8 * RECORD_NUMBERS;
@@ -65,3 +65,20 @@ pub const CONSUMER_DRAWN: usize = 671;
 pub const SUPPLIED: usize = 687;
 
 pub const OUTSTANDING: usize = 703;
+
+// The switch month and the closings done, a number each.
+pub const SWITCH_MONTH: usize = 719;
+
+pub const CLOSINGS: usize = 720;
+
+// Where the bank of each class of hours starts; its pending and its open follow.
+pub const OFF_PEAK: usize = 721;
+
+pub const NORMAL: usize = 753;
+
+pub const PEAK: usize = 785;
+
+// How far after the start of its class pending starts, and how far open.
+pub const CLASS_PENDING: usize = 8;
+
+pub const CLASS_OUTSTANDING: usize = 16;

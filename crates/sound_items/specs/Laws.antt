@@ -2,3 +2,4 @@ pub mod SoundTests
 pub mod Capped
 pub mod CappedLaws
 pub mod TotalsBeyondLaws
+pub mod HoursTests

@@ -1,30 +1,26 @@
-// The tests of soundness at one place: of what is agreed and scheduled, of the counts, of a generator's and a consumer's totals. Every number of
-// the record is arbitrary, so a term is capped before it is added; tests are joined by & and |, which do not branch.
+// The tests of soundness at one place: of what is agreed and scheduled, of the counts, of a generator's and a consumer's totals, of the switch and
+// the classes of hours. Every number of the record is arbitrary, so a term is capped before it is added, or the sum is tested for having wrapped;
+// tests are joined by & and |, which do not branch.
 ghost use mathlib.Core.Path.{_≡_};
-ghost use Prim.Native.Nat.{_≤_};
-ghost use Rattle.lists.specs.Tests.{within};
-ghost use Rattle.record.specs.Sound.{agreedSound, pairSound, generatorSound, consumerSound};
+ghost use mathlib.Core.Bool.{true};
+ghost use Prim.Native.Nat.{_+_, _≤_};
+ghost use Rattle.record.specs.Sound.{agreedSound, pairSound, generatorSound, consumerSound, switchSound, classesSound};
 ghost use Rattle.sound_items.specs.Laws.SoundTests.{countsTest};
 ghost use Rattle.energy.specs.Limits.{mostUnitBlocks};
 ghost use Rattle.sound_items.specs.Laws.Capped.{Clipped};
 use record::ConsumerTerms;
 use record::Counts;
 use record::GeneratorTerms;
+use record::Switch;
 use record::Terms;
-
-fn in_range(low: u64, high: u64, n: u64) -> bool
-    ensures { λ r. ⌜ r ≡ within low high n ⌝ }
-{
-    (low <= n) & (n <= high)
-}
 
 pub fn counts_sound(t: Terms, n: Counts) -> bool
     ensures { λ r. ⌜ r ≡ countsTest t n ⌝ }
 {
-    in_range(1, record::MOST_GENERATORS, t.generators)
-        & in_range(1, record::MOST_CONSUMERS, t.consumers)
+    lists::in_range(1, record::MOST_GENERATORS, t.generators)
+        & lists::in_range(1, record::MOST_CONSUMERS, t.consumers)
         & (t.rate <= record::MOST_RATE)
-        & in_range(1, record::MOST_CYCLE, t.cycle)
+        & lists::in_range(1, record::MOST_CYCLE, t.cycle)
         & (n.gone < t.cycle)
         & (n.unitblocks <= record::MOST_UNIT_BLOCKS)
         & (n.monthblocks <= record::MOST_MONTH_BLOCKS)
@@ -99,4 +95,23 @@ pub fn consumer_sound(blocks: u64, inside: bool, x: ConsumerTerms) -> bool
     } else {
         (x.metered | x.setoff | x.shortfall | x.drawn | x.supplied | x.outstanding) == 0
     }
+}
+
+// The closings done may be any number: a sum that wraps is below its first term.
+pub fn switch_sound(hours: bool, t: Switch, n: Counts) -> bool
+    ensures { λ r. ⌜ r ≡ switchSound hours (t .month) (t .closings) (n .gone) (n .unitblocks) (n .monthblocks) ⌝ }
+{
+    let sum = std::num::wrapping_add_u64(t.closings, n.monthblocks);
+    (t.month <= record::MOST_SWITCH)
+        & ((t.closings <= sum) & (sum <= n.unitblocks))
+        & (!hours | (n.gone == 0))
+}
+
+// By hours: whether a place is the sum of its three classes, which may be any numbers.
+pub fn classes_sound(whole: u64, offpeak: u64, normal: u64, peak: u64) -> bool
+    ensures { λ r. ⌜ r ≡ classesSound true whole (offpeak + normal + peak) ⌝ }
+{
+    let two = std::num::wrapping_add_u64(offpeak, normal);
+    let three = std::num::wrapping_add_u64(two, peak);
+    (offpeak <= two) & (two <= three) & (three == whole)
 }

@@ -1,2 +1,4 @@
 pub mod PairHeld
 pub mod PlacesHeldLaws
+pub mod ClassesHeld
+pub mod ClassesHeldLaws

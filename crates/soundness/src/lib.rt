@@ -10,15 +10,17 @@ ghost use Rattle.energy.specs.Limits.{mostGenerators, mostConsumers, mostUnitBl
 ghost use Rattle.record.specs.Stored.{figures};
 ghost use Rattle.record.specs.Sound.{limit, sound};
 ghost use Rattle.sound_items.specs.Laws.Capped.{RowTotal};
-ghost use Rattle.sound_items.specs.Laws.SoundTests.{agreedTest, pairTest, generatorRead, generatorTest, consumerRead, consumerTest};
+ghost use Rattle.sound_items.specs.Laws.SoundTests.{agreedTest, pairTest, generatorRead, generatorTest, consumerRead, consumerTest, hoursTest};
 ghost use Rattle.record_layout.specs.OnBytes.{recordIn, bookIn};
 ghost use Rattle.record_layout.specs.Laws.RecordHead.{HeadRead};
 ghost use Rattle.soundness.specs.Laws.PairHeld.{pairHeld};
-ghost use Rattle.record_places.specs.RecordSize.{recordBytes};
+ghost use Rattle.soundness.specs.Laws.ClassesHeld.{listHeld, classesHeld};
+ghost use Rattle.record_places.specs.RecordSize.{recordNumbers, recordBytes};
 use record::ConsumerTerms;
 use record::Counts;
 use record::GeneratorTerms;
 use record::Record;
+use record::Switch;
 use record::Terms;
 
 // The kW of generator g for the first n consumers, each capped.
@@ -193,6 +195,77 @@ fn consumers_sound(s: &[u8], m: usize, blocks: u64) -> bool
     ok
 }
 
+// How many numbers a class has: 8 of bank, 8 of pending, 16 of open.
+const CLASS_NUMBERS: usize = 32;
+
+// Before the switch the classes hold nothing: all 0, joined by | as above.
+fn classes_empty(s: &[u8]) -> bool
+    requires { ⌜ length (now s) ≡ recordBytes ⌝ }
+    ensures { λ r. ⌜ r ≡ classesHeld false (now (s .entry)) ⌝ }
+{
+    let mut bits: u64 = 0;
+    let mut j: usize = 0;
+    while j < CLASS_NUMBERS {
+        bits = bits
+            | record_numbers::number_at(s, record_places::OFF_PEAK + j)
+            | record_numbers::number_at(s, record_places::NORMAL + j)
+            | record_numbers::number_at(s, record_places::PEAK + j);
+        j += 1;
+    }
+    bits == 0
+}
+
+// By hours: each of the n places from `at` on is the sum of its classes, which are numbers `first` and up of each class.
+fn list_added_up(s: &[u8], at: usize, first: usize, n: usize) -> bool
+    requires { ⌜ (length (now s) ≡ recordBytes) × ((at + n ≤ recordNumbers) × (first + n ≤ 32)) ⌝ }
+    ensures { λ r. ⌜ r ≡ listHeld true (now (s .entry)) at first n ⌝ }
+{
+    let mut ok = true;
+    let mut i: usize = 0;
+    while i < n {
+        let k = first + i;
+        ok = ok
+            & sound_items::classes_sound(
+                record_numbers::number_at(s, at + i),
+                record_numbers::number_at(s, record_places::OFF_PEAK + k),
+                record_numbers::number_at(s, record_places::NORMAL + k),
+                record_numbers::number_at(s, record_places::PEAK + k),
+            );
+        i += 1;
+    }
+    ok
+}
+
+fn classes_all_sound(s: &[u8], hours: bool) -> bool
+    requires { ⌜ length (now s) ≡ recordBytes ⌝ }
+    ensures { λ r. ⌜ r ≡ classesHeld hours (now (s .entry)) ⌝ }
+{
+    if hours {
+        list_added_up(s, record_places::BANK, 0, 8)
+            & list_added_up(s, record_places::PENDING, record_places::CLASS_PENDING, 8)
+            & list_added_up(
+                s,
+                record_places::OUTSTANDING,
+                record_places::CLASS_OUTSTANDING,
+                16,
+            )
+    } else {
+        classes_empty(s)
+    }
+}
+
+// The switch and the classes of hours: which test of the classes applies, the record itself tells.
+fn hours_sound(s: &[u8], counts: Counts) -> bool
+    requires { ⌜ (length (now s) ≡ recordBytes) × (counts ≡ recordIn (now s) .counts) ⌝ }
+    ensures { λ r. ⌜ r ≡ hoursTest (bookIn (now (s .entry))) ⌝ }
+{
+    let month = record_numbers::number_at(s, record_places::SWITCH_MONTH);
+    let closings = record_numbers::number_at(s, record_places::CLOSINGS);
+    let hours = hours::apply(month, closings);
+    sound_items::switch_sound(hours, Switch { month, closings }, counts)
+        & classes_all_sound(s, hours)
+}
+
 // The test of the record that the bytes hold, with its terms and counts.
 pub fn is_sound(s: &[u8], terms: Terms, counts: Counts) -> bool
     requires { ⌜ HeadRead (now s) terms counts ⌝ }
@@ -206,6 +279,7 @@ pub fn is_sound(s: &[u8], terms: Terms, counts: Counts) -> bool
             & pairs_sound(s, n, m)
             & generators_sound(s, n, blocks)
             & consumers_sound(s, m, blocks)
+            & hours_sound(s, counts)
     } else {
         false
     }

@@ -20,7 +20,7 @@ fn agreement_a(s: &mut [u8])
 {
     let generators = [1, 1_000, 800];
     let pairs = [1, 1, 1_000, 500];
-    opening::opening_on(1, 2, 1_000, 2, 0, &generators, &pairs, s);
+    opening::opening_on(1, 2, 1_000, 2, 0, 0, &generators, &pairs, s);
     let kws = [100, 200];
     let ranks = [1, 1];
     schedule::schedule_on(s, &kws, &ranks);

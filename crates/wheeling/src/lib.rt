@@ -34,11 +34,12 @@ pub extern "C" fn wheeling_open(
     rate: u32,
     cycle: u32,
     gone: u32,
+    switch_month: u32,
     generator_list: &[u8],
     pair_list: &[u8],
     record: &mut [u8],
 ) -> u32
-    ensures { λ r. ⌜ ByteOpened (openingIn generators consumers rate cycle gone (now («generator_list» .entry)) (now («pair_list» .entry))) (now («record» .entry)) r (now («record» .exit)) ⌝ }
+    ensures { λ r. ⌜ ByteOpened (openingIn generators consumers rate cycle gone «switch_month» (now («generator_list» .entry)) (now («pair_list» .entry))) (now («record» .entry)) r (now («record» .exit)) ⌝ }
 {
     if record.len() == RECORD_BYTES {
         let mut agreed = [0u32; 25];
@@ -51,6 +52,7 @@ pub extern "C" fn wheeling_open(
             rate,
             cycle,
             gone,
+            switch_month,
             &agreed[..n],
             &pairs[..m],
             record,

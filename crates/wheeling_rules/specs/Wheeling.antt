@@ -39,8 +39,8 @@ pub record OnBytes (refusal : ℕ) (Whole : Type 0) (bytes lent : List ℕ) (num
 -- What the four calls ensure. Opening and schedule have no output.
 
 -- the arguments of opening, its two lists as bytes
-abbrev pub openingIn : (G C rate cycle gone : ℕ) (generators pairs : List ℕ) → Opening
-openingIn G C rate cycle gone generators pairs = asked G C rate cycle gone (numbersIn 4 generators) (numbersIn 4 pairs)
+abbrev pub openingIn : (G C rate cycle gone switch : ℕ) (generators pairs : List ℕ) → Opening
+openingIn G C rate cycle gone switch generators pairs = asked G C rate cycle gone switch (numbersIn 4 generators) (numbersIn 4 pairs)
 
 abbrev pub ByteOpened : Opening → List ℕ → ℕ → List ℕ → Type 0
 ByteOpened o bytes number bytes′ = OnBytes 2 (OpenedOn o bytes number bytes′) bytes [] number bytes′ []

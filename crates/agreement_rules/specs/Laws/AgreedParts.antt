@@ -1,4 +1,4 @@
--- The parts of a record that opening makes of the lists given. Assumes nothing.
+-- The parts of a record that opening makes of the numbers and lists given. Assumes nothing.
 use Prim.Native.Nat.{ℕ, _*_}
 use mathlib.Core.Bool.{_&&_}
 use mathlib.Core.List.{List}
@@ -7,9 +7,24 @@ use lib.ListN.{take, drop}
 use Rattle.lists.specs.Choice.{if_then_else_}
 use Rattle.lists.specs.Tables.{table}
 use Rattle.lists.specs.Pairs.{cell, pairs}
+use Rattle.record.specs.declared.Terms.{Terms}
+use Rattle.record.specs.declared.Counts.{Counts}
+use Rattle.record.specs.declared.Switch.{Switch}
 use Rattle.record.specs.declared.Agreed.{Agreed}
 use Rattle.record.specs.declared.Links.{Links}
 use Rattle.record.specs.declared.Schedule.{Schedule}
+use Rattle.agreement_rules.specs.Opening.{firstGone}
+
+unfoldable pub termsFrom : (G C rate cycle : ℕ) → Terms
+termsFrom G C rate cycle = record { generators = G; consumers = C; rate = rate; cycle = cycle }
+
+-- no blocks yet
+unfoldable pub firstCounts : (gone switch : ℕ) → Counts
+firstCounts gone switch = record { gone = firstGone switch gone; unitblocks = 0; monthblocks = 0 }
+
+-- no closings yet
+unfoldable pub firstSwitch : ℕ → Switch
+firstSwitch switch = record { month = switch; closings = 0 }
 
 unfoldable pub agreedFrom : ℕ → List ℕ → Agreed
 agreedFrom n xs =

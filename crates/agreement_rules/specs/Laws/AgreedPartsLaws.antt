@@ -6,17 +6,21 @@ use lib.ListN.{drop, replicate}
 use borrow.Author.Tests.{eq-eqb, ne-eqb}
 use Rattle.lists.specs.Tables.{table}
 use Rattle.lists.specs.Pairs.{cell, pairs}
-use Rattle.record.specs.Book.{noInjection, noConsumption}
-use Rattle.record.specs.Stored.{storedGenerators, storedConsumers, stored, zeros}
+use Rattle.record.specs.Book.{noInjection, noConsumption, noStocks}
+use Rattle.record.specs.Stored.{storedGenerators, storedConsumers, storedStocks, stored, zeros}
+use Rattle.record.specs.declared.Terms.{Terms}
+use Rattle.record.specs.declared.Counts.{Counts}
 use Rattle.record.specs.declared.Agreed.{Agreed}
 use Rattle.record.specs.declared.Links.{Links}
 use Rattle.record.specs.declared.Schedule.{Schedule}
 use Rattle.record.specs.declared.Generators.{Generators}
 use Rattle.record.specs.declared.Consumers.{Consumers}
+use Rattle.record.specs.declared.Switch.{Switch}
+use Rattle.record.specs.declared.Stocks.{Stocks}
 use Rattle.record.specs.declared.Record.{Record}
-use Rattle.agreement_rules.specs.Opening.{Opening, asked, kindOf, installedOf, contractedOf, linkOf, rateOfLoss, openingRefusal, opened, Opened}
+use Rattle.agreement_rules.specs.Opening.{Opening, asked, firstGone, kindOf, installedOf, contractedOf, linkOf, rateOfLoss, openingRefusal, opened, Opened}
 use Rattle.agreement_rules.specs.Laws.AgreedReadingLaws.{cell-drop-none, cell-take, cell-ones}
-use Rattle.agreement_rules.specs.Laws.AgreedParts.{agreedFrom, linksFrom, firstSchedule}
+use Rattle.agreement_rules.specs.Laws.AgreedParts.{termsFrom, firstCounts, firstSwitch, agreedFrom, linksFrom, firstSchedule}
 
 -- ---- opening
 
@@ -37,51 +41,46 @@ pub first-schedule : (n m : ℕ) {b : List ℕ} → n ≤ 8 → m ≤ 16 → b �
 unfolding firstSchedule
 first-schedule n m h k q = λ i. record { kw = zeros128 i; rank = (q ∙ ap (pairs 8 16) (cell-drop-none n m (replicate 128 1) ∙ cell-ones n m h k)) i }
 
-pub zero-parts : {x : Generators} {y : Consumers} → x ≡ storedGenerators (λ g. noInjection) → y ≡ storedConsumers (λ c. noConsumption) →
+pub zero-parts : {t : Terms} {n : Counts} {x : Generators} {y : Consumers} {w : Switch} {z : Stocks} → t ≡ termsFrom 0 0 0 0 → n ≡ firstCounts 0 0 →
+    x ≡ storedGenerators (λ g. noInjection) → y ≡ storedConsumers (λ c. noConsumption) → w ≡ firstSwitch 0 → z ≡ storedStocks noStocks →
     record {
-      terms = record { generators = 0; consumers = 0; rate = 0; cycle = 0 };
-      counts = record { gone = 0; unitblocks = 0; monthblocks = 0 };
+      terms = t;
+      counts = n;
       agreed = record { kind = replicate 8 0; installed = replicate 8 0; contracted = replicate 8 0 };
       links = record { link = replicate 128 0; loss = replicate 128 0 };
       schedule = record { kw = replicate 128 0; rank = replicate 128 0 };
       generators = x;
       consumers = y;
+      switch = w;
+      offpeak = z;
+      normal = z;
+      peak = z;
     } ≡ zeros
-unfolding zeros stored
-zero-parts x y =
+unfolding zeros stored termsFrom firstCounts firstGone firstSwitch
+zero-parts t n x y w z =
     λ i. record {
-      terms = record { generators = 0; consumers = 0; rate = 0; cycle = 0 };
-      counts = record { gone = 0; unitblocks = 0; monthblocks = 0 };
+      terms = t i;
+      counts = n i;
       agreed = record { kind = zeros8 i; installed = zeros8 i; contracted = zeros8 i };
       links = record { link = zeros128 i; loss = zeros128 i };
       schedule = record { kw = zeros128 i; rank = zeros128 i };
       generators = x i;
       consumers = y i;
+      switch = w i;
+      offpeak = z i;
+      normal = z i;
+      peak = z i;
     }
 
-module _ (G C rate cycle gone : ℕ) (generators pairs : List ℕ) where
-  pub opened-parts : {rate′ cycle′ gone′ : ℕ} {a : Agreed} {l : Links} {s : Schedule} {x : Generators} {y : Consumers} → rate′ ≡ rate → cycle′ ≡ cycle → gone′ ≡ gone →
-      a ≡ agreedFrom G generators → l ≡ linksFrom G C pairs → s ≡ firstSchedule G C → x ≡ storedGenerators (λ g. noInjection) → y ≡ storedConsumers (λ c. noConsumption) →
-      record {
-        terms = record { generators = G; consumers = C; rate = rate′; cycle = cycle′ };
-        counts = record { gone = gone′; unitblocks = 0; monthblocks = 0 };
-        agreed = a;
-        links = l;
-        schedule = s;
-        generators = x;
-        consumers = y;
-      } ≡ stored (opened (asked G C rate cycle gone generators pairs))
-  unfolding stored opened agreedFrom linksFrom firstSchedule kindOf installedOf contractedOf linkOf rateOfLoss
-  opened-parts r t o a l s x y =
-      λ i. record {
-        terms = record { generators = G; consumers = C; rate = r i; cycle = t i };
-        counts = record { gone = o i; unitblocks = 0; monthblocks = 0 };
-        agreed = a i;
-        links = l i;
-        schedule = s i;
-        generators = x i;
-        consumers = y i;
-      }
+module _ (G C rate cycle gone switch : ℕ) (generators pairs : List ℕ) where
+  pub opened-parts : {t : Terms} {n : Counts} {a : Agreed} {l : Links} {s : Schedule} {x : Generators} {y : Consumers} {w : Switch} {z : Stocks} →
+      t ≡ termsFrom G C rate cycle → n ≡ firstCounts gone switch → a ≡ agreedFrom G generators → l ≡ linksFrom G C pairs → s ≡ firstSchedule G C →
+      x ≡ storedGenerators (λ g. noInjection) → y ≡ storedConsumers (λ c. noConsumption) → w ≡ firstSwitch switch → z ≡ storedStocks noStocks →
+      record { terms = t; counts = n; agreed = a; links = l; schedule = s; generators = x; consumers = y; switch = w; offpeak = z; normal = z; peak = z } ≡
+      stored (opened (asked G C rate cycle gone switch generators pairs))
+  unfolding stored opened termsFrom firstCounts agreedFrom linksFrom firstSchedule firstSwitch kindOf installedOf contractedOf linkOf rateOfLoss
+  opened-parts t n a l s x y w z =
+      λ i. record { terms = t i; counts = n i; agreed = a i; links = l i; schedule = s i; generators = x i; consumers = y i; switch = w i; offpeak = z i; normal = z i; peak = z i }
 
 pub opening-accepted : {o : Opening} {r : Record} → openingRefusal o ≡ 0 → r ≡ stored (opened o) → Opened o 0 r
 opening-accepted {o} {r} z e = record { number-is = sym z; record-is = rw (eq-eqb (openingRefusal o) 0 z) e }

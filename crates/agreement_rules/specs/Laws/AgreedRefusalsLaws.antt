@@ -16,7 +16,7 @@ use Rattle.lists.specs.Laws.TestsLaws.{some-rows, some-same, within-high, and-l
 use Rattle.lists.specs.Pairs.{place, cell}
 use Rattle.lists.specs.Laws.PairsLaws.{place-in, cell-in}
 use Rattle.lists.specs.Refusals.{firstOf}
-use Rattle.energy.specs.Limits.{mostGenerators, mostConsumers, lastKind, mostCapacity, mostLoss, mostRank}
+use Rattle.energy.specs.Limits.{mostGenerators, mostConsumers, lastKind, mostCapacity, mostLoss, mostRank, mostSwitch}
 use Rattle.record.specs.Plan.{lowerCapacity}
 use Rattle.record.specs.Stored.{figures, planOf}
 use Rattle.record.specs.declared.Agreed.{Agreed}
@@ -96,7 +96,7 @@ outside-pairs xs ys from n m high h =
     some-rows n m (λ k. not (within 0 high (getD xs (from + k) 0))) ∙
     some-same n _ _ (λ g l. some-same m _ _ (λ c k. outside-over high _ ∙ ap (ltb high) (sym (h g c l k))))
 
-module _ (G C rate cycle gone : ℕ) (generators pairs : List ℕ) where
+module _ (G C rate cycle gone switch : ℕ) (generators pairs : List ℕ) where
   pairs-bad : outside pairs 0 (G * C) 0 1 || outside pairs (G * C) (G * C) 0 mostLoss ≡
       some G (λ g. some C (λ c. ltb 1 (cell G C (take (G * C) pairs) g c) || ltb mostLoss (cell G C (drop (G * C) pairs) g c)))
   pairs-bad =
@@ -107,23 +107,25 @@ module _ (G C rate cycle gone : ℕ) (generators pairs : List ℕ) where
       (some-or G _ _ ∙ some-same G _ _ (λ g l. some-or C _ _))
 
   -- the number of an opening whose lists have the right lengths
-  pub opening-number : {n₃ n₄ n₅ n₆ : ℕ} {kind installed contracted link loss fit : Bool} → sizesFit G C generators pairs ≡ true →
+  pub opening-number : {n₃ n₄ n₅ n₆ n₁₉ : ℕ} {kind installed contracted link loss fit late : Bool} → sizesFit G C generators pairs ≡ true →
       kind ≡ columnOver generators G 0 lastKind →
       installed ≡ columnOver generators G 1 mostCapacity →
       contracted ≡ columnOver generators G 2 mostCapacity →
       link ≡ outside pairs 0 (G * C) 0 1 →
       loss ≡ outside pairs (G * C) (G * C) 0 mostLoss →
       fit ≡ termsFit rate cycle gone →
-      n₆ ≡ (if not fit then 6 else 0) →
+      late ≡ ltb mostSwitch switch →
+      n₁₉ ≡ (if late then 19 else 0) →
+      n₆ ≡ (if not fit then 6 else n₁₉) →
       n₅ ≡ (if link || loss then 5 else n₆) →
       n₄ ≡ (if installed || contracted then 4 else n₅) →
       n₃ ≡ (if kind then 3 else n₄) →
-      n₃ ≡ openingRefusal (asked G C rate cycle gone generators pairs)
+      n₃ ≡ openingRefusal (asked G C rate cycle gone switch generators pairs)
   unfolding openingRefusal kindOf installedOf contractedOf linkOf rateOfLoss firstOf sizesFit termsFit columnOver
-  opening-number e k i j l s t n₆ n₅ n₄ n₃ =
-      n₃ ∙ rw (n₄, n₅, n₆, k, i, j, l, s, t, some-or G (λ g. ltb mostCapacity (cell G 3 generators g 1)) (λ g. ltb mostCapacity (cell G 3 generators g 2)), pairs-bad, e) refl
+  opening-number e k i j l s t w n₁₉ n₆ n₅ n₄ n₃ =
+      n₃ ∙ rw (n₄, n₅, n₆, n₁₉, k, i, j, l, s, t, w, some-or G (λ g. ltb mostCapacity (cell G 3 generators g 1)) (λ g. ltb mostCapacity (cell G 3 generators g 2)), pairs-bad, e) refl
 
-  pub opening-misfit : sizesFit G C generators pairs ≡ false → openingRefusal (asked G C rate cycle gone generators pairs) ≡ 2
+  pub opening-misfit : sizesFit G C generators pairs ≡ false → openingRefusal (asked G C rate cycle gone switch generators pairs) ≡ 2
   unfolding openingRefusal firstOf sizesFit
   opening-misfit e = rw e refl
 

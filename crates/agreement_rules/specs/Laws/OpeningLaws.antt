@@ -5,10 +5,11 @@ use mathlib.Core.Bool.{Bool, true, false, _&&_, _||_, not, false≢true}
 use mathlib.Core.List.{List, [], _∷_}
 use mathlib.Core.Logic.{_⊎_, inl, inr, ⊎-elim}
 use native.Mathlib.Omega.{arith}
-use borrow.Author.Tests.{eqb-true, eq-eqb, ltb-true, ltb-false, leb-true, le-leb, lt-ltb, le-ltb, not-false}
+use borrow.Author.Tests.{eqb-true, eqb-false, eq-eqb, ltb-true, ltb-false, leb-true, le-leb, lt-ltb, le-ltb, not-false}
 use lib.Dec.{eqb, leb, ltb}
 use lib.ListN.{length, take, drop}
 use Rattle.lists.specs.Choice.{if_then_else_}
+use Rattle.lists.specs.Sums.{sum}
 use Rattle.lists.specs.Laws.SumsLaws.{sum-zero}
 use Rattle.lists.specs.Tests.{some, within}
 use Rattle.lists.specs.Laws.TestsLaws.{some-none, or-left, or-right, chain-at, and-both, some-never, within-low, within-high, within-from}
@@ -17,8 +18,11 @@ use Rattle.lists.specs.Laws.PairsLaws.{cell-out, cell-all}
 use Rattle.lists.specs.Laws.RefusalsLaws.{first-head, first-tail, first-none, first-end, first-or}
 use Rattle.energy.specs.Limits.{mostGenerators, mostConsumers, lastKind, mostCapacity, mostLoss, mostRate, mostCycle}
 use Rattle.record.specs.Plan.{scheduled}
+use Rattle.record.specs.Hours.{hoursApply}
+use Rattle.record.specs.Book.{noInjection, noConsumption, noStocks}
+use Rattle.record.specs.Sound.{limit, bankTotal, pendingTotal, openTotal}
 use Rattle.record.specs.Laws.SoundLaws.{Facts, AgreedFacts, PairFacts, no-injection, no-consumption}
-use Rattle.agreement_rules.specs.Opening.{Opening, sizesFit, termsFit, kindOf, installedOf, contractedOf, linkOf, rateOfLoss, openingRefusal, opened, Permitted}
+use Rattle.agreement_rules.specs.Opening.{Opening, sizesFit, termsFit, firstGone, kindOf, installedOf, contractedOf, linkOf, rateOfLoss, openingRefusal, opened, Permitted}
 
 module _ (o : Opening) where
   abbrev sizes : Bool
@@ -76,6 +80,7 @@ module _ (o : Opening) where
         cycle-low = within-low 1 mostCycle (o .cycle) (t 1);
         cycle-high = within-high 1 mostCycle (o .cycle) (t 1);
         gone-high = ltb-true _ _ (t 2);
+        switch-high = ltb-false _ _ (first-head 18 _ _ (first-tail 5 _ _ e₆));
       }
 
   pub permitted-accepted : Permitted o → openingRefusal o ≡ 0
@@ -88,7 +93,7 @@ module _ (o : Opening) where
       (first-none _ _ _ (some-never (o .G) badCapacity (λ g h. neither (le-ltb _ _ (p .installed g h)) (le-ltb _ _ (p .contracted g h))))
       (first-none _ _ _
       (some-never (o .G) (λ g. some (o .C) (badPair g)) (λ g h. some-never (o .C) (badPair g) (λ c k. neither (le-ltb _ _ (p .link g c h k)) (le-ltb _ _ (p .loss g c h k)))))
-      (first-none _ _ _ (ap not t) first-end))))
+      (first-none _ _ _ (ap not t) (first-none _ _ _ (le-ltb _ _ (p .switch-high)) first-end)))))
     where
       neither : {a b : Bool} → a ≡ false → b ≡ false → a || b ≡ false
       neither {a} {b} e q = rw (e, q)
@@ -144,8 +149,32 @@ module _ (o : Opening) (p : Permitted o) where
       out : (xs : List ℕ) → ltb g (o .G) && ltb c (o .C) ≡ false → cell (o .G) (o .C) xs g c ≡ 0
       out xs z = rw z
 
+  gone-less : firstGone (o .switch) (o .gone) < o .cycle
+  unfolding firstGone
+  gone-less = go (eqb (o .switch) 1)
+    where
+      go : (t : Bool) → (if t then 0 else o .gone) < o .cycle
+      go true = omega (arith, p .cycle-low)
+      go false = p .gone-high
+
+  gone-first : hoursApply (o .switch) 0 ≡ true → firstGone (o .switch) (o .gone) ≡ 0
+  unfolding hoursApply firstGone
+  gone-first e = go (eqb (o .switch) 1) refl
+    where
+      one : (z : Bool) → eqb (o .switch) 0 ≡ z → not z && leb (o .switch) 1 ≡ true → o .switch ≡ 1
+      one true q r = absurd (false≢true r)
+      one false q r = omega (arith, eqb-false (o .switch) 0 q, leb-true (o .switch) 1 r)
+
+      go : (t : Bool) → eqb (o .switch) 1 ≡ t → (if t then 0 else o .gone) ≡ 0
+      go true q = refl
+      go false q = absurd (eqb-false (o .switch) 1 q (one (eqb (o .switch) 0) refl e))
+
+  none-held : (t : Bool) → 0 ≡ limit t 0
+  none-held true = refl
+  none-held false = refl
+
   pub opened-facts : Facts (opened o)
-  unfolding opened
+  unfolding opened noStocks noInjection noConsumption bankTotal pendingTotal openTotal sum
   opened-facts =
       record {
         counts =
@@ -157,7 +186,7 @@ module _ (o : Opening) (p : Permitted o) where
               rate-high = p .rate-high;
               cycle-low = p .cycle-low;
               cycle-high = p .cycle-high;
-              gone-high = p .gone-high;
+              gone-high = gone-less;
               blocks-high = omega arith;
               month-high = omega arith;
               month-blocks = omega arith;
@@ -166,4 +195,9 @@ module _ (o : Opening) (p : Permitted o) where
         pair = pair;
         gen = λ g. no-injection 0 (ltb g (o .G));
         con = λ c. no-consumption 0 (ltb c (o .C));
+        switch = record { switch-high = p .switch-high; closings-blocks = omega arith; gone-none = gone-first };
+        hours-bank = λ g. none-held (hoursApply (o .switch) 0);
+        hours-pending = λ g. none-held (hoursApply (o .switch) 0);
+        hours-open = λ c. none-held (hoursApply (o .switch) 0);
+        hours-three = λ k l. refl;
       }

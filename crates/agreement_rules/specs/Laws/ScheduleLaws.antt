@@ -17,6 +17,7 @@ use Rattle.lists.specs.Laws.RefusalsLaws.{first-head, first-tail, first-or}
 use Rattle.energy.specs.Limits.{mostRank}
 use Rattle.record.specs.Plan.{lowerCapacity, scheduled}
 use Rattle.record.specs.Book.{Book}
+use Rattle.record.specs.Sound.{bankTotal, pendingTotal, openTotal}
 use Rattle.record.specs.Laws.CalledLaws.{Keeps}
 use Rattle.record.specs.Laws.SoundLaws.{Facts, AgreedFacts, PairFacts, pair-beyond}
 use Rattle.agreement_rules.specs.Schedule.{newKw, newRank, scheduleRefusal, afterSchedule, scheduleRule}
@@ -132,8 +133,20 @@ module _ (kws ranks : List ℕ) (b : Book) where
         go false e y q = out false refl (inl (ltb-false g (b .plan .G) e))
 
     schedule-facts : Facts (afterSchedule kws ranks b)
-    unfolding afterSchedule scheduled
-    schedule-facts = record { counts = f .counts; agreed = agreed; pair = pair; gen = f .gen; con = f .con }
+    unfolding afterSchedule scheduled bankTotal pendingTotal openTotal
+    schedule-facts =
+        record {
+          counts = f .counts;
+          agreed = agreed;
+          pair = pair;
+          gen = f .gen;
+          con = f .con;
+          switch = f .switch;
+          hours-bank = f .hours-bank;
+          hours-pending = f .hours-pending;
+          hours-open = f .hours-open;
+          hours-three = f .hours-three;
+        }
 
 pub schedule-keeps : (kws ranks : List ℕ) → Keeps (scheduleRule kws ranks)
 unfolding scheduleRule

@@ -21,6 +21,7 @@ use Rattle.order_rules.specs.Settle.{given, kept, unmet}
 use Rattle.order_rules.specs.Laws.SettleLaws.{settle-has}
 use Rattle.order.specs.Laws.KeptOrder.{turnsOf}
 use Rattle.order.specs.Laws.KeptStock.{column, ColumnSettled}
+use Rattle.bank.specs.Laws.CreditLaws.{Crediting, limits-kept}
 use Rattle.bank.specs.declared.Bank.{Bank}
 use Rattle.bank.specs.declared.Credit.{Credit}
 use Rattle.bank.specs.declared.Draw.{Draw}
@@ -37,54 +38,13 @@ zeros = refl
 
 -- ---- step 1
 
-module _ (old pending : List ℕ) (rate : ℕ) where
-  unfoldable pub chargeAt : ℕ → ℕ
-  chargeAt g = portionUp (place 8 pending g) rate
-
-  unfoldable pub creditAt : ℕ → ℕ
-  creditAt g = place 8 old g + (place 8 pending g - chargeAt g)
-
-  -- The invariant of the loop that credits: the first g generators are done.
-  pub record Crediting (g : ℕ) (balance charge : List ℕ) : Type 0 where
-    pub balance-is : Filling 8 creditAt old g balance
-    pub charge-is : Filling 8 chargeAt (replicate 8 0) g charge
-
-  pub credit-start : length old ≡ 8 → Crediting 0 old (replicate 8 0)
-  credit-start z = record { balance-is = fill-start z; charge-is = fill-start refl }
-
-  pub credit-step : {g due : ℕ} {balance charge : List ℕ} → Crediting g balance charge → g < 8 → due ≡ portionUp (getD pending g 0) rate →
-      Crediting (g + 1) (set balance g (getD balance g 0 + (getD pending g 0 - due))) (set charge g due)
-  unfolding creditAt chargeAt
-  credit-step {g} {due} {balance} {charge} h l e =
-      let p = place-in 8 pending g l in
-      let d : due ≡ chargeAt g = rw p e in
-      record {
-        balance-is = fill-step (h .balance-is) l (cc (p, place-in 8 old g l, fill-here (h .balance-is)));
-        charge-is = fill-step (h .charge-is) l d;
-      }
-
-  pub credit-done : {g : ℕ} {balance charge : List ℕ} → Crediting g balance charge → 8 ≤ g →
-      _≡_ {A = Credit} (record { bank = record { balance = balance }; charge = charge }) (creditOf (record { balance = old }) pending rate)
-  unfolding creditOf creditAt chargeAt
-  credit-done h l =
-      let e = fill-done (h .balance-is) l in
-      let f = fill-done (h .charge-is) l in
-      λ i. record { bank = record { balance = e i }; charge = f i }
-
-  -- within the limits the next generator's figures are moderate, and its charge is within its pending
-  module _ (within : creditable (record { balance = old }) pending rate ≡ true) where
-    pub credit-moderate : {g : ℕ} {balance charge : List ℕ} → Crediting g balance charge → g < 8 → getD balance g 0 + getD pending g 0 ≤ mostFigure
-    unfolding creditable
-    credit-moderate {g} h l =
-        let sum : place 8 old g + place 8 pending g ≤ mostFigure = leb-true _ _ (all-at 8 _ (and-right (leb rate mostRate) _ within) g l) in
-        omega (arith, place-in 8 old g l, place-in 8 pending g l, fill-here (h .balance-is))
-
-    pub rate-high : rate ≤ mostRate
-    unfolding creditable
-    rate-high = leb-true _ _ (and-left (leb rate mostRate) _ within)
-
-    pub credit-exact : {due : ℕ} (g : ℕ) → due ≡ portionUp (getD pending g 0) rate → due ≤ getD pending g 0
-    credit-exact g e = omega (arith, portion-le (getD pending g 0) rate (omega (arith, rate-high)))
+pub credit-done : (old pending : List ℕ) (rate : ℕ) {g : ℕ} {balance charge : List ℕ} → Crediting 8 old pending rate g balance charge → 8 ≤ g →
+    _≡_ {A = Credit} (record { bank = record { balance = balance }; charge = charge }) (creditOf (record { balance = old }) pending rate)
+unfolding creditOf
+credit-done old pending rate h l =
+    let e = fill-done (h .balance-is) l in
+    let f = fill-done (h .charge-is) l in
+    λ i. record { bank = record { balance = e i }; charge = f i }
 
 -- the call's answer by the two cases of its test
 module _ (x : Bank) (pending : List ℕ) (rate : ℕ) where
@@ -98,7 +58,7 @@ module _ (x : Bank) (pending : List ℕ) (rate : ℕ) where
 
   pub creditable-so : rate ≤ mostRate → ((g : ℕ) → g < 8 → place 8 (x .balance) g + place 8 pending g ≤ mostFigure) → creditable x pending rate ≡ true
   unfolding creditable
-  creditable-so h k = and-both (le-leb _ _ h) (all-from 8 _ (λ g l. le-leb _ _ (k g l)))
+  creditable-so h k = limits-kept 8 (x .balance) pending rate 8 h k
 
 -- ---- step 2, for one consumer
 
@@ -146,11 +106,11 @@ module _ (x : Bank) (n : ℕ) (keys : List ℕ) (want : ℕ) where
 
 -- ---- step 4
 
-module _ (x : Bank) (ends : Bool) (size : length (x .balance) ≡ 8) where
-  pub lapse-all : ends ≡ true → _≡_ {A = Lapse} (record { bank = record { balance = replicate 8 0 }; lapsed = x .balance }) (lapseOf x ends)
+module _ (x : Bank) (due : Bool) (size : length (x .balance) ≡ 8) where
+  pub lapse-all : due ≡ true → _≡_ {A = Lapse} (record { bank = record { balance = replicate 8 0 }; lapsed = x .balance }) (lapseOf x due)
   unfolding lapseOf
   lapse-all t = rw t (λ i. record { bank = record { balance = zeros i }; lapsed = balances (x .balance) size i })
 
-  pub lapse-none : ends ≡ false → _≡_ {A = Lapse} (record { bank = x; lapsed = replicate 8 0 }) (lapseOf x ends)
+  pub lapse-none : due ≡ false → _≡_ {A = Lapse} (record { bank = x; lapsed = replicate 8 0 }) (lapseOf x due)
   unfolding lapseOf
   lapse-none t = rw t (λ i. record { bank = record { balance = balances (x .balance) size i }; lapsed = zeros i })

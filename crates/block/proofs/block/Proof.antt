@@ -1,6 +1,5 @@
--- `block::block` meets its contract: the call on the record's bytes is the call on the record.
+-- `block::block` meets its contract: the call on the record's bytes is the call on the record. Assumes nothing.
 use borrow.Author.Needs.{needs}
-use Rattle.record_layout.specs.OnBytes.{recordIn}
 use Rattle.record_layout.specs.Laws.OnBytesLaws.{on-struct}
 use Rattle.block_rules.specs.Laws.BlockLaws.{block-keeps}
 use Rattle.block.proofs.block.Statement.{statement}

@@ -17,12 +17,14 @@ use Rattle.lists.specs.Laws.PairsLaws.{place-out}
 use Rattle.lists.specs.Laws.RefusalsLaws.{first-head, first-tail, first-or}
 use Rattle.energy.specs.Limits.{mostReading, mostMonthBlocks, mostUnitBlocks}
 use Rattle.record.specs.Plan.{deemed}
-use Rattle.block_rules.specs.Settlement.{setOff, underdrawn}
+use Rattle.block_rules.specs.Settlement.{setOff}
 use Rattle.block_rules.specs.Laws.SettlementLaws.{entry-split, exit-split}
 use Rattle.record.specs.Book.{Book}
+use Rattle.record.specs.Sound.{bankTotal, pendingTotal, openTotal}
 use Rattle.record.specs.Laws.CalledLaws.{Keeps}
 use Rattle.record.specs.Laws.SoundLaws.{Facts, GeneratorFacts, ConsumerFacts}
-use Rattle.block_rules.specs.Block.{generatorAfterBlock, consumerAfterBlock, afterBlock, blockLength, entryOf, exitOf, blockNumber, blockRefusal, blockRule}
+use Rattle.block_rules.specs.Block.{underdrawnSum, generatorAfterBlock, consumerAfterBlock, afterBlock, blockLength, entryOf, exitOf, blockNumber, blockRefusal, blockRule}
+use Rattle.block_rules.specs.Laws.BlockClasses.{classes-after, no-fourth}
 
 -- a block to which no number applies
 pub record Enterable (entry exit : List ℕ) (size : ℕ) (b : Book) : Type 0 where
@@ -99,7 +101,13 @@ either-place true x = omega arith
 either-place false x = omega arith
 
 module _ (entry exit : List ℕ) (size : ℕ) (b : Book) (f : Facts b) (ok : Enterable entry exit size b) where
-  generator : (g : ℕ) → GeneratorFacts (b .unitblocks + 1) (ltb g (b .plan .G)) (generatorAfterBlock b (entryOf entry exit b) (exitOf entry exit b) g)
+  abbrev E : ℕ → ℕ
+  E = entryOf entry exit b
+
+  abbrev R : ℕ → ℕ
+  R = exitOf entry exit b
+
+  generator : (g : ℕ) → GeneratorFacts (b .unitblocks + 1) (ltb g (b .plan .G)) (generatorAfterBlock b E R g)
   unfolding generatorAfterBlock
   generator g =
       record {
@@ -108,23 +116,23 @@ module _ (entry exit : List ℕ) (size : ℕ) (b : Book) (f : Facts b) (ok : Ent
             omega (
               arith,
               f .gen g .equation,
-              entry-split (b .plan) (entryOf entry exit b) (exitOf entry exit b) g (λ c l. omega (arith, f .pair g c .loss)),
-              either-place (deemed (b .plan) g) (sum (b .plan .C) (λ c. underdrawn (b .plan) (entryOf entry exit b) c (exitOf entry exit b c) g)),
+              entry-split (b .plan) E R g (λ c l. omega (arith, f .pair g c .loss)),
+              either-place (deemed (b .plan) g) (underdrawnSum (b .plan) E R g),
             );
         beyond = λ z. omega (arith, f .gen g .beyond z, entry-out entry exit b g (ltb-false g (b .plan .G) z));
       }
 
-  consumer : (c : ℕ) → ConsumerFacts (b .unitblocks + 1) (ltb c (b .plan .C)) (consumerAfterBlock b (entryOf entry exit b) (exitOf entry exit b) c)
+  consumer : (c : ℕ) → ConsumerFacts (b .unitblocks + 1) (ltb c (b .plan .C)) (consumerAfterBlock b E R c)
   unfolding consumerAfterBlock
   consumer c =
       record {
         metered = omega (arith, f .con c .metered, ok .exit-most c);
-        equation = omega (arith, f .con c .equation, exit-split (b .plan) (entryOf entry exit b) c (exitOf entry exit b c));
+        equation = omega (arith, f .con c .equation, exit-split (b .plan) E c (R c));
         beyond = λ z. omega (arith, f .con c .beyond z, exit-out entry exit b c (ltb-false c (b .plan .C) z));
       }
 
-  block-facts : Facts (afterBlock b (entryOf entry exit b) (exitOf entry exit b))
-  unfolding afterBlock
+  block-facts : Facts (afterBlock b E R)
+  unfolding afterBlock generatorAfterBlock consumerAfterBlock bankTotal pendingTotal openTotal
   block-facts =
       let n = f .counts in
       record {
@@ -146,6 +154,11 @@ module _ (entry exit : List ℕ) (size : ℕ) (b : Book) (f : Facts b) (ok : Ent
         pair = f .pair;
         gen = generator;
         con = consumer;
+        switch = record { switch-high = f .switch .switch-high; closings-blocks = omega (arith, f .switch .closings-blocks); gone-none = f .switch .gone-none };
+        hours-bank = λ g. classes-after b E R (λ t. t .bank g) 0 (b .gen g .bank) _ (λ x. omega arith) (omega arith) (f .hours-bank g);
+        hours-pending = λ g. classes-after b E R (λ t. t .pending g) _ (b .gen g .pending) _ (λ x. refl) refl (f .hours-pending g);
+        hours-open = λ c. classes-after b E R (λ t. t .outstanding c) _ (b .con c .outstanding) _ (λ x. refl) refl (f .hours-open c);
+        hours-three = no-fourth b E R f;
       }
 
 pub block-keeps : (entry exit : List ℕ) (size : ℕ) → Keeps (blockRule entry exit size)

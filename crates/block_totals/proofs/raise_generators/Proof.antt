@@ -49,11 +49,11 @@ raise-rows-requires-2 c κs =
     let four = next-list 8 8 few (omega arith) three (after-raise-rows .raise-rows .ensures) in
     (fewer _ _ few (omega arith) four, (omega (arith, lists .size), (lists .consumers-few, lists .moderate)))
 
-mul-raise-underdrawn : tie.Need-mul-raise-underdrawn
-mul-raise-underdrawn c = search needs
+mul-underdrawn : tie.Need-mul-underdrawn
+mul-underdrawn c = search needs
 
-raise-underdrawn-requires : tie.Need-raise-underdrawn-requires
-raise-underdrawn-requires c κs =
+raise-by-kind-requires : tie.Need-raise-by-kind-requires
+raise-by-kind-requires c κs =
     let after-raise-rows2 = c .before .before .before in
     let after-raise-rows = after-raise-rows2 .before .before .before .before in
     let after-raise-numbers = after-raise-rows .before .before .before .before in
@@ -64,21 +64,39 @@ raise-underdrawn-requires c κs =
     let two = next-list 8 8 few (omega arith) (start .pre .0) (after-raise-readings .raise-readings .ensures) in
     let three = next-list 8 8 few (omega arith) two (after-raise-numbers .raise-numbers .ensures) in
     let four = next-list 8 8 few (omega arith) three (after-raise-rows .raise-rows .ensures) in
-    let five = next-list 8 48 few (omega arith) four (after-raise-rows2 .raise-rows2 .ensures) in
-    (fewer _ _ (omega arith) (omega arith) five, (omega (arith, lists .size), (few, (lists .consumers-few, lists .moderate))))
+    let five = next-list 8 8 few (omega arith) four (after-raise-rows2 .raise-rows2 .ensures) in
+    (fewer _ _ few (omega arith) five, (omega arith, (omega (arith, lists .size), (few, (lists .consumers-few, lists .moderate)))))
+
+raise-by-kind-requires-2 : tie.Need-raise-by-kind-requires-2
+raise-by-kind-requires-2 c κs =
+    let after-raise-by-kind = c .before .before .before in
+    let after-raise-rows2 = after-raise-by-kind .before .before .before .before in
+    let after-raise-rows = after-raise-rows2 .before .before .before .before in
+    let after-raise-numbers = after-raise-rows .before .before .before .before in
+    let after-raise-readings = after-raise-numbers .before .before .before .before in
+    let start = after-raise-readings .before .before .before .before .before in
+    let lists = start .pre .1 .1 in
+    let few = lists .generators-few in
+    let two = next-list 8 8 few (omega arith) (start .pre .0) (after-raise-readings .raise-readings .ensures) in
+    let three = next-list 8 8 few (omega arith) two (after-raise-numbers .raise-numbers .ensures) in
+    let four = next-list 8 8 few (omega arith) three (after-raise-rows .raise-rows .ensures) in
+    let five = next-list 8 8 few (omega arith) four (after-raise-rows2 .raise-rows2 .ensures) in
+    let six = next-list 40 8 (omega arith) (omega arith) five (after-raise-by-kind .raise-by-kind .ensures) in
+    (fewer _ _ few (omega arith) six, (omega arith, (omega (arith, lists .size), (few, (lists .consumers-few, lists .moderate)))))
 
 same-length : tie.Need-same-length
 same-length c = search needs
 
 returns : tie.Need-returns
 returns c =
-    let after-raise-rows2 = c .before .before .before .before .before .before in
+    let after-raise-by-kind = c .before .before .before .before .before .before in
+    let after-raise-rows2 = after-raise-by-kind .before .before .before .before in
     let after-raise-rows = after-raise-rows2 .before .before .before .before in
     let after-raise-numbers = after-raise-rows .before .before .before .before in
     let after-raise-readings = after-raise-numbers .before .before .before .before in
     let start = after-raise-readings .before .before .before .before .before in
     let a = start .args in
-    generators-all (a .n) (a .m) (a .entry .now) (a .out .now) (a .s .now) (after-raise-readings .raise-readings .ensures) (after-raise-numbers .raise-numbers .ensures) (after-raise-rows .raise-rows .ensures) (after-raise-rows2 .raise-rows2 .ensures) (c .before .before .raise-underdrawn .ensures)
+    generators-all (a .n) (a .m) (a .entry .now) (a .out .now) (a .s .now) (after-raise-readings .raise-readings .ensures) (after-raise-numbers .raise-numbers .ensures) (after-raise-rows .raise-rows .ensures) (after-raise-rows2 .raise-rows2 .ensures) (after-raise-by-kind .raise-by-kind .ensures) (c .before .before .raise-by-kind2 .ensures)
 
 pub raise-generators-spec : {M : Type 1} → statement M
 raise-generators-spec =
@@ -90,7 +108,8 @@ raise-generators-spec =
     raise-numbers-requires
     raise-rows-requires
     raise-rows-requires-2
-    mul-raise-underdrawn
-    raise-underdrawn-requires
+    mul-underdrawn
+    raise-by-kind-requires
+    raise-by-kind-requires-2
     same-length
     returns)

@@ -1,6 +1,8 @@
--- Document 01, "Bench cases": P1 to P10, every figure that the paper gives, as one theorem on the rules. Assumes nothing.
+-- Document 01, "Bench cases": P1 to P10, every figure that the paper gives, and cases of document 02's F-7, as one theorem on the rules.
+-- Assumes nothing.
 use Prim.Native.Nat.{ℕ, _+_}
-use mathlib.Core.List.{List, [], _∷_, _++_}
+use mathlib.Core.Bool.{true, false, _&&_}
+use mathlib.Core.List.{List, [], _∷_, _++_, map}
 use mathlib.Core.Path.{_≡_, refl}
 use Rattle.lists.specs.Sums.{sum}
 use Rattle.lists.specs.Tables.{table}
@@ -14,14 +16,17 @@ use Rattle.order_rules.specs.Settle.{lower, settle, given, kept, unmet}
 use Rattle.record.specs.Plan.{deemed, scheduled, order, suppliers}
 use Rattle.block_rules.specs.Delivery.{countedOf, counted, unaccounted, partOf, lossOf, delivered, atExit}
 use Rattle.block_rules.specs.Settlement.{setOff, afterSetOff, underdrawn, shortfall, remainder, blockLists, blockOutput}
-use Rattle.record.specs.Book.{noInjection, noConsumption}
-use Rattle.agreement_rules.specs.Opening.{Opening, kindOf, installedOf, contractedOf, linkOf, rateOfLoss, sizesFit, termsFit, openingRefusal, opened}
+use Rattle.record.specs.Hours.{classes, slotAfter, classOfSlot, hoursApply, beforeSwitch}
+use Rattle.record.specs.Book.{Book, noInjection, noConsumption, noStocks}
+use Rattle.record.specs.Sound.{countsSound, agreedSound, pairSound, generatorSound, consumerSound, switchSound, classesSound, bankTotal, pendingTotal, openTotal, generatorHours, consumerHours, sound}
+use Rattle.agreement_rules.specs.Opening.{Opening, kindOf, installedOf, contractedOf, linkOf, rateOfLoss, sizesFit, termsFit, firstGone, openingRefusal, opened}
 use Rattle.agreement_rules.specs.Schedule.{newKw, newRank, scheduleRefusal, afterSchedule, scheduleRule}
-use Rattle.block_rules.specs.Block.{generatorAfterBlock, consumerAfterBlock, afterBlock, blockLength, entryOf, exitOf, blockNumber, blockRefusal, blockRule}
+use Rattle.block_rules.specs.Block.{addsTo, generatorAfterBlock, consumerAfterBlock, classAfterBlock, afterBlock, blockLength, entryOf, exitOf, blockNumber, blockRefusal, blockRule}
 use Rattle.closing_rules.specs.Drawing.{stockAt, drawnAt, missingAt}
-use Rattle.closing_rules.specs.Closing.{takenUp, charge, credited, banks, drawn, supplied, cycleEnds, lapses, goneAfter, bankBeforeLapse, lapsed, bankAfter, generatorAfterClosing, consumerAfterClosing, afterClosing, closingLists, closingOutput, closingLength, closingNumber, closingRefusal, closingRule}
+use Rattle.closing_rules.specs.Closing.{cycleEnds, lapseDue, sourcesOf, undivided, stocksOf, takenUp, chargeOf, credited, serving, stock, want, drawnOf, bankLeft, suppliedOf, charge, drawn, supplied, bankBeforeLapse, lapses, goneAfter, lapsed, bankAfter, generatorAfterClosing, consumerAfterClosing, afterClosing, closingLists, closingOutput, closingLength, closingNumber, closingRefusal, closingRule}
 use Rattle.book.specs.AgreementA.{agreementA, scheduleA}
 use Rattle.book.specs.BookCalls.{Call, schedule, block, closing, ruleOf, next, bookAfter, BookAnswer, bookAnswers}
+use Rattle.book.specs.Laws.HoursCases.{switched, hourly, holding, openAdded, toOffPeak, toNormal, toPeak, fifteenEach, peakOfTheFirst, peakOrNormal, allClasses}
 
 -- an accepted call with this output
 abbrev accepted : List ℕ → BookAnswer
@@ -39,7 +44,7 @@ zeroBlock = block (0 ∷ []) (0 ∷ 0 ∷ []) 11
 
 -- n generators, all linked to one consumer
 unfoldable pub oneConsumer : ℕ → List ℕ → List ℕ → Opening
-oneConsumer n generators losses = record { G = n; C = 1; rate = 1_000; cycle = 2; gone = 0; generators = generators; pairs = table n (λ g. 1) ++ losses }
+oneConsumer n generators losses = record { G = n; C = 1; rate = 1_000; cycle = 2; gone = 0; switch = 0; generators = generators; pairs = table n (λ g. 1) ++ losses }
 
 -- P4 and P5: kind 0, one consumer, 40 kW, loss 1,000
 unfoldable pub oneScheduled : Opening
@@ -57,12 +62,28 @@ wind loss = oneConsumer 1 (1 ∷ 40 ∷ 40 ∷ []) (loss ∷ [])
 unfoldable pub slot50 : Opening
 slot50 = oneConsumer 3 (0 ∷ 20_000 ∷ 20_000 ∷ 0 ∷ 44_000 ∷ 44_000 ∷ 3 ∷ 320_000 ∷ 320_000 ∷ []) (0 ∷ 0 ∷ 1_000 ∷ [])
 
+-- ---- F-7
+
+-- the schedule and both lines under agreement A, whatever its bank terms
+abbrev linesA : List Call
+linesA = scheduleA ∷ firstLine ∷ secondLine ∷ []
+
+-- agreement A of cycle 12 with 3 months gone and switch month 2, after these calls
+abbrev changing : List Call → Book
+changing ks = bookAfter (opened (switched 12 3 2)) ks
+
+-- its first month, closed, and its second
+abbrev twoMonths : List Call
+twoMonths = linesA ++ (closing 9 ∷ linesA)
+
 -- A block's output is loss, set off, underdrawn and shortfall by pair, unaccounted by generator, remainder by consumer; a
 -- closing's is drawn by pair, charge, lapsed and bank by generator, open and supplied by consumer.
 pub record BenchCases : Type 0 where
   -- no number applies to any of these openings
   pub all-opened :
       openingRefusal agreementA + openingRefusal oneScheduled + openingRefusal twoScheduled + openingRefusal (wind 0) + openingRefusal (wind 1) + openingRefusal slot50 ≡ 0
+  -- F-7: agreement A has switch month 0, so no closing of it goes by hours
+  pub never-by-hours : (closings : ℕ) → hoursApply (agreementA .switch) closings ≡ false
   -- P1: parts 23,333 and 46,668, losses 2,334 each, remainders 0 and 15,666
   pub P1-parts : table 2 (partOf (bookAfter (opened agreementA) (scheduleA ∷ []) .plan) 0 70_001) ≡ 23_333 ∷ 46_668 ∷ []
   pub P1 :
@@ -125,12 +146,51 @@ pub record BenchCases : Type 0 where
       accepted [] ∷
       accepted (0 ∷ 0 ∷ 8_000_000 ∷ 5_000_000 ∷ 11_000_000 ∷ 72_000_000 ∷ 0 ∷ 0 ∷ 0 ∷ 0 ∷ 0 ∷ 0 ∷ 0 ∷ 0 ∷ 0 ∷ 38_000_000 ∷ []) ∷
       []
+  -- F-7. Slots 20, 21, 36, 37, 68, 69, 76, 77, 92, 93 and 96 of a day, then slots 1 and 21 of the next: the block that is entered where the
+  -- month holds one less.
+  pub slots :
+      map openAdded (19 ∷ 20 ∷ 35 ∷ 36 ∷ 67 ∷ 68 ∷ 75 ∷ 76 ∷ 91 ∷ 92 ∷ 95 ∷ 96 ∷ 116 ∷ []) ≡
+      toNormal ∷ toPeak ∷ toPeak ∷ toOffPeak ∷ toOffPeak ∷ toNormal ∷ toNormal ∷ toPeak ∷ toPeak ∷ toNormal ∷ toNormal ∷ toNormal ∷ toPeak ∷ []
+  -- the books of the next four cases are sound
+  pub held-sound : sound fifteenEach && sound peakOfTheFirst && sound peakOrNormal && sound allClasses ≡ true
+  -- The charge is rounded up for each class: 10 % of 15 is 1.5, so 2 + 2 + 2 = 6; on the sum of 45 it would be 5. 13 + 13 + 13 = 39 lapse.
+  pub charge-by-class : bookAnswers fifteenEach (closing 6 ∷ []) ≡ accepted (0 ∷ 6 ∷ 39 ∷ 0 ∷ 0 ∷ 0 ∷ []) ∷ []
+  -- One generator after another gives of the class, then of peak: generator 1 gives its peak, and generator 2's normal lapses. Were all normal
+  -- given first, generator 2 would give, and generator 1's peak would lapse.
+  pub peak-of-the-first : bookAnswers peakOfTheFirst (closing 10 ∷ []) ≡ accepted (10 ∷ 0 ∷ 0 ∷ 0 ∷ 0 ∷ 10 ∷ 0 ∷ 0 ∷ 10 ∷ 0 ∷ []) ∷ []
+  -- Each consumer in turn settles its classes: consumer 1 draws the peak, and consumer 2's normal is supplied. Were one class after another
+  -- settled for all consumers, normal would come first, and consumer 2 would draw.
+  pub consumer-by-consumer : bookAnswers peakOrNormal (closing 9 ∷ []) ≡ accepted (10 ∷ 0 ∷ 0 ∷ 0 ∷ 0 ∷ 10 ∷ 10 ∷ 0 ∷ 10 ∷ []) ∷ []
+  -- Charge 5 + 10 + 20 = 35 leaves 45, 90 and 180. Off-peak draws 45, then 55 of peak; nobody wants normal; peak draws the 125 that are left:
+  -- 225 are drawn. 90 of normal lapse, and 180 - 125 = 55 of peak are supplied: by hours a linked pair may have both, in two classes.
+  pub all-classes : bookAnswers allClasses (closing 6 ∷ []) ≡ accepted (225 ∷ 35 ∷ 90 ∷ 0 ∷ 280 ∷ 55 ∷ []) ∷ []
+  pub all-classes-left : table classes (λ k. bankLeft allClasses k 0) ≡ 0 ∷ 90 ∷ 0 ∷ []
+  pub all-classes-supplied : table classes (λ k. suppliedOf allClasses k 0) ≡ 0 ∷ 0 ∷ 55 ∷ []
+  -- Change-over, in the middle of a cycle: the first closing goes by the former rules, as P2, and P2's bank lapses in it. The lines are slots 1
+  -- and 2, normal: the second closing goes by hours with the same figures, and lapses as every such one.
+  pub change-over :
+      bookAnswers (changing linesA) (closing 9 ∷ []) ++ bookAnswers (changing twoMonths) (closing 9 ∷ []) ≡
+      accepted (0 ∷ 15_666 ∷ 2_400 ∷ 5_933 ∷ 0 ∷ 0 ∷ 15_666 ∷ 0 ∷ 0 ∷ []) ∷
+      accepted (0 ∷ 15_666 ∷ 2_400 ∷ 5_933 ∷ 0 ∷ 0 ∷ 15_666 ∷ 0 ∷ 0 ∷ []) ∷
+      []
+  -- months gone before the first closing, after it, and after the second
+  pub change-over-gone : map (λ ks. changing ks .gone) (linesA ∷ (linesA ++ (closing 9 ∷ [])) ∷ (twoMonths ++ (closing 9 ∷ [])) ∷ []) ≡ 3 ∷ 0 ∷ 0 ∷ []
+  -- pending by class before the first closing, and before the second
+  pub change-over-pending : map (λ ks. table classes (λ k. changing ks .hours k .pending 0)) (linesA ∷ twoMonths ∷ []) ≡ (0 ∷ 0 ∷ 0 ∷ []) ∷ (0 ∷ 23_999 ∷ 0 ∷ []) ∷ []
+  -- with switch month 3 the first closing keeps the bank, and 4 months are gone
+  pub switch-later : bookAnswers (bookAfter (opened (switched 12 3 3)) linesA) (closing 9 ∷ []) ≡ accepted (0 ∷ 15_666 ∷ 2_400 ∷ 0 ∷ 5_933 ∷ 0 ∷ 15_666 ∷ 0 ∷ 0 ∷ []) ∷ []
+  pub switch-later-gone : bookAfter (opened (switched 12 3 3)) (linesA ++ (closing 9 ∷ [])) .gone ≡ 4
+  -- of 1 month gone, opening with switch month 1 keeps none, with any other the one given
+  pub opened-gone : map (λ switch. opened (switched 2 1 switch) .gone) (0 ∷ 1 ∷ 2 ∷ []) ≡ 1 ∷ 0 ∷ 1 ∷ []
+  -- the switch month is at most 1,200; months gone not below the cycle come first
+  pub opened-switch : map openingRefusal (switched 2 1 1_200 ∷ switched 2 1 1_201 ∷ switched 2 2 1_201 ∷ switched 2 2 1 ∷ []) ≡ 0 ∷ 19 ∷ 6 ∷ 6 ∷ []
 
 pub bench-cases : BenchCases
-unfolding agreementA oneConsumer oneScheduled twoScheduled wind slot50 sum table all some within place cell pairs joined firstOf portionUp lossOn part span insert sort only ahead inOrder lower settle given kept unmet deemed scheduled order suppliers countedOf counted unaccounted partOf lossOf delivered atExit setOff afterSetOff underdrawn shortfall remainder blockLists blockOutput noInjection noConsumption kindOf installedOf contractedOf linkOf rateOfLoss sizesFit termsFit openingRefusal opened newKw newRank scheduleRefusal afterSchedule scheduleRule generatorAfterBlock consumerAfterBlock afterBlock blockLength entryOf exitOf blockNumber blockRefusal blockRule takenUp charge credited stockAt drawnAt missingAt banks drawn supplied cycleEnds lapses goneAfter bankBeforeLapse lapsed bankAfter generatorAfterClosing consumerAfterClosing afterClosing closingLists closingOutput closingLength closingNumber closingRefusal closingRule ruleOf next bookAfter bookAnswers
+unfolding agreementA oneConsumer oneScheduled twoScheduled wind slot50 sum table all some within place cell pairs joined firstOf portionUp lossOn part span insert sort only ahead inOrder lower settle given kept unmet deemed scheduled order suppliers countedOf counted unaccounted partOf lossOf delivered atExit setOff afterSetOff underdrawn shortfall remainder blockLists blockOutput noInjection noConsumption kindOf installedOf contractedOf linkOf rateOfLoss sizesFit termsFit openingRefusal opened newKw newRank scheduleRefusal afterSchedule scheduleRule generatorAfterBlock consumerAfterBlock afterBlock blockLength entryOf exitOf blockNumber blockRefusal blockRule slotAfter classOfSlot hoursApply beforeSwitch noStocks addsTo classAfterBlock firstGone stockAt drawnAt missingAt cycleEnds lapseDue sourcesOf undivided stocksOf takenUp chargeOf credited serving stock want drawnOf bankLeft suppliedOf charge drawn supplied bankBeforeLapse lapses goneAfter lapsed bankAfter generatorAfterClosing consumerAfterClosing afterClosing closingLists closingOutput closingLength closingNumber closingRefusal closingRule ruleOf next bookAfter bookAnswers switched hourly holding countsSound agreedSound pairSound generatorSound consumerSound switchSound classesSound bankTotal pendingTotal openTotal generatorHours consumerHours sound
 bench-cases =
     record {
       all-opened = refl;
+      never-by-hours = λ closings. refl;
       P1-parts = refl;
       P1 = refl;
       P2-pending = refl;
@@ -146,4 +206,19 @@ bench-cases =
       P9-part = refl;
       P9-delivered = refl;
       P10 = refl;
+      slots = refl;
+      held-sound = refl;
+      charge-by-class = refl;
+      peak-of-the-first = refl;
+      consumer-by-consumer = refl;
+      all-classes = refl;
+      all-classes-left = refl;
+      all-classes-supplied = refl;
+      change-over = refl;
+      change-over-gone = refl;
+      change-over-pending = refl;
+      switch-later = refl;
+      switch-later-gone = refl;
+      opened-gone = refl;
+      opened-switch = refl;
     }

@@ -3,6 +3,7 @@ use Prim.Native.Nat.{ℕ, zero, suc, _+_, _≤_, _<_}
 use mathlib.Core.Path.{_≡_, refl, sym, ap, _∙_, subst, subst₂}
 use mathlib.Core.Bool.{Bool, true, false}
 use mathlib.Core.List.{List, [], _∷_, map}
+use mathlib.Core.Logic.{inl, inr, ⊎-elim}
 use native.Mathlib.Omega.{arith}
 use borrow.Author.Tests.{eqb-true, eq-eqb}
 use lib.Dec.{eqb}
@@ -28,12 +29,12 @@ use Rattle.agreement_rules.specs.Schedule.{afterSchedule, scheduleRule}
 use Rattle.agreement_rules.specs.Laws.ScheduleLaws.{schedule-keeps}
 use Rattle.block_rules.specs.Block.{afterBlock, entryOf, exitOf, blockRule}
 use Rattle.block_rules.specs.Laws.BlockLaws.{block-keeps, block-setoff, block-drawn}
-use Rattle.closing_rules.specs.Closing.{afterClosing, closingOutput, closingLength, closingRule, supplied}
-use Rattle.closing_rules.specs.Laws.ClosingLaws.{closing-keeps, closing-setoff, closing-drawn, before-lapse-is, none-idle}
+use Rattle.closing_rules.specs.Closing.{afterClosing, closingOutput, closingLength, closingRule, bankBeforeLapse, supplied}
+use Rattle.closing_rules.specs.Laws.ClosingLaws.{closing-keeps, closing-setoff, closing-drawn, before-lapse-is, none-idle, none-idle-class}
 use Rattle.closing_rules.specs.Laws.ClosingOutput.{closing-length, lapsed-at, bank-at, supplied-at}
 use Rattle.book.specs.BookCalls.{Call, schedule, block, closing, ruleOf, next, bookAfter, bookAnswers}
 use Rattle.book.specs.Trace.{Ask, askSchedule, askBlock, askClosing, callOf, lentOf, Given, Done, Trace, trace-none, trace-one, lastRecord}
-use Rattle.book.specs.Demand3.{at, Match, Matches, match-none, match-one, NoIdleBank, NotIdleIn, NoIdleBanks, idle-none, idle-one, Demand3, Claim}
+use Rattle.book.specs.Demand3.{at, bankIn, suppliedIn, Match, Matches, match-none, match-one, NoIdleBank, NotIdleIn, NoIdleBanks, idle-none, idle-one, Demand3, Claim}
 
 -- ---- what holds of the book at every moment
 
@@ -133,16 +134,26 @@ module _ (o : Opening) (b : Book) (h : Kept o b) (a : Ask) (w : Given) (d : Done
 -- ---- no idle bank
 
 module _ (o : Opening) (b : Book) (h : Kept o b) where
+  linked : (g c : ℕ) → linkOf o g c ≡ 1 → b .plan .link g c ≡ 1
+  linked g c e = ap (λ (f : ℕ → ℕ → ℕ). f g c) (h .agreement .link-is) ∙ e
+
+  bank-in : (g : ℕ) → g < o .G → bankIn o (closingOutput b) g ≡ bankBeforeLapse b g
+  bank-in g l =
+      let k : g < b .plan .G = omega (arith, h .agreement .G-is) in
+      rw (← (h .agreement .G-is), ← (h .agreement .C-is)) (omega (arith, lapsed-at b g k, bank-at b g k, before-lapse-is b g))
+
+  supplied-in : (c : ℕ) → c < o .C → suppliedIn o (closingOutput b) c ≡ supplied b c
+  supplied-in c l = rw (← (h .agreement .G-is), ← (h .agreement .C-is)) (supplied-at b c (omega (arith, h .agreement .C-is)))
+
   closing-idle : NoIdleBank o b (closingOutput b)
-  unfolding closingLength
+  unfolding closingLength bankBeforeLapse supplied
   closing-idle =
-      let sameG = h .agreement .G-is in
-      let sameC = h .agreement .C-is in
       record {
-        size = rw (← sameG, ← sameC) (closing-length b);
-        bank-is = λ g l. let k : g < b .plan .G = omega arith in rw (← sameG, ← sameC) (omega (arith, lapsed-at b g k, bank-at b g k, before-lapse-is b g));
-        supplied-is = λ c l. let k : c < b .plan .C = omega arith in rw (← sameG, ← sameC) (supplied-at b c k);
-        none-idle = λ g c l k e. none-idle b g c (omega arith) (omega arith) (ap (λ (f : ℕ → ℕ → ℕ). f g c) (h .agreement .link-is) ∙ e);
+        size = rw (← (h .agreement .G-is), ← (h .agreement .C-is)) (closing-length b);
+        bank-is = bank-in;
+        supplied-is = supplied-in;
+        none-idle = λ old g c l m e. ⊎-elim (λ z. inl (bank-in g l ∙ z)) (λ z. inr (supplied-in c m ∙ z)) (none-idle b old g c (omega arith) (omega arith) (linked g c e));
+        none-idle-class = λ hours g c k l m n e. none-idle-class b g c k (omega arith) (omega arith) n (linked g c e);
       }
 
   not-idle : (a : Ask) (w : Given) → Done (stored b) a w → NotIdleIn o b (callOf a) (w .out)

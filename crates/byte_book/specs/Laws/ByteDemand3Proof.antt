@@ -193,8 +193,8 @@ module _ (o : Opening) (p : Permitted o) (s₀ : List ℕ) (q : s₀ ≡ encode 
 
 pub byte-demand-3 : ByteClaim
 unfolding bytesAfter
-byte-demand-3 G C rate cycle gone generators pairs p before l number s₀ start =
-    let o = openingIn G C rate cycle gone generators pairs in
+byte-demand-3 G C rate cycle gone switch generators pairs p before l number s₀ start =
+    let o = openingIn G C rate cycle gone switch generators pairs in
     let opened-so = start .whole l in
     let accepted : number ≡ 0 = opened-so .number-is ∙ permitted-accepted o p in
     let q : s₀ ≡ encode 8 (words (stored (opened o))) = rw accepted at (opened-so .record-is) in

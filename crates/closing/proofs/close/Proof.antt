@@ -1,6 +1,5 @@
 -- `closing::close` meets its contract: the call on the record's bytes is the call on the record.
 use mathlib.Core.Path.{refl, sym, _∙_}
-use Rattle.record_layout.specs.OnBytes.{recordIn}
 use Rattle.record_layout.specs.Laws.OnBytesLaws.{on-struct}
 use Rattle.closing_rules.specs.Laws.ClosingLaws.{closing-keeps}
 use Rattle.closing.proofs.close.Statement.{statement}

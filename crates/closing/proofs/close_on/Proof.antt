@@ -19,6 +19,9 @@ load-counts-requires c κs = search needs
 refusal-on-requires : tie.Need-refusal-on-requires
 refusal-on-requires c κs = search needs
 
+load-switch-requires : tie.Need-load-switch-requires
+load-switch-requires c κs = search needs
+
 -- in the first branch: what was read, and that the call is accepted
 head : (c : tie.Then1) →
     let counts = c .before .before .before in
@@ -32,14 +35,18 @@ accepted : (c : tie.Then1) →
     numberOn (closingRule (length (a .out .now))) (recordIn (a .s .now)) ≡ 0
 accepted c = sym (c .before .refusal-on .ensures) ∙ c .if1 .taken
 
-make-requires : tie.Need-make-requires
-make-requires c κs = let t = c .before .before in (head t, accepted t)
+make-lists-requires : tie.Need-make-lists-requires
+make-lists-requires c κs =
+    let switch = c .before .before in
+    let t = switch .before .before in
+    (head t, (switch .load-switch .ensures, accepted t))
 
 enter-requires : tie.Need-enter-requires
 enter-requires c κs =
     let lists = c .before .before .before .before in
-    let t = lists .before .before .before in
-    listed _ _ (head t) (accepted t) (lists .make .ensures)
+    let switch = lists .before .before .before in
+    let t = switch .before .before in
+    listed _ _ (head t) (switch .load-switch .ensures) (accepted t) (lists .make-lists .ensures)
 
 same-length : tie.Need-same-length
 same-length c = search needs
@@ -51,7 +58,7 @@ returns : tie.Need-returns
 returns c =
     let totals = c .before .before in
     let lists = totals .before .before .before .before .before in
-    closing-accepted _ _ (accepted (lists .before .before .before)) (totals .enter .ensures) (lists .make .ensures)
+    closing-accepted _ _ (accepted (lists .before .before .before .before .before)) (totals .enter .ensures) (lists .make-lists .ensures)
 
 same-length-3 : tie.Need-same-length-3
 same-length-3 c = search needs
@@ -66,7 +73,8 @@ close-on-spec =
     load-terms-requires
     load-counts-requires
     refusal-on-requires
-    make-requires
+    load-switch-requires
+    make-lists-requires
     enter-requires
     same-length
     same-length-2

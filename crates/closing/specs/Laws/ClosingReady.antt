@@ -9,6 +9,7 @@ use Rattle.record.specs.Stored.{stored}
 use Rattle.record.specs.Called.{numberOn}
 use Rattle.record.specs.declared.Terms.{Terms}
 use Rattle.record.specs.declared.Counts.{Counts}
+use Rattle.record.specs.declared.Switch.{Switch}
 use Rattle.record_layout.specs.Laws.RecordHead.{HeadRead}
 use Rattle.record_layout.specs.OnBytes.{recordIn, CalledOn, bookIn}
 use Rattle.record_layout.specs.Laws.OnBytesLaws.{on-accepted, on-refused}
@@ -16,9 +17,9 @@ use Rattle.closing_rules.specs.Closing.{afterClosing, closingOutput, closingRul
 use Rattle.closing_rules.specs.Laws.ClosingRefusals.{facts}
 use Rattle.closing_totals.specs.Laws.ClosingTotals.{Listed}
 
-pub listed : (s : List ℕ) (size : ℕ) {terms : Terms} {counts : Counts} {out : List ℕ} →
-    HeadRead s terms counts → numberOn (closingRule size) (recordIn s) ≡ 0 → out ≡ closingOutput (bookIn s) → Listed s terms counts out
-listed s size head z e = record { head = head; sound = facts (recordIn s) size z; output = e }
+pub listed : (s : List ℕ) (size : ℕ) {terms : Terms} {counts : Counts} {switch : Switch} {out : List ℕ} →
+    HeadRead s terms counts → switch ≡ recordIn s .switch → numberOn (closingRule size) (recordIn s) ≡ 0 → out ≡ closingOutput (bookIn s) → Listed s terms counts switch out
+listed s size head is z e = record { head = head; switch-is = is; sound = facts (recordIn s) size z; output = e }
 
 module _ (s lent : List ℕ) where
   pub closing-accepted : {s′ out : List ℕ} → numberOn (closingRule (length lent)) (recordIn s) ≡ 0 →

@@ -34,17 +34,17 @@ size c = start c .args .terms .generators * start c .args .terms .consumers
 
 read : (c : tie.After-load16) →
     let a = start c .args in
-    StepsRead (recordIn (a .s .now)) (a .terms) (a .counts) (c .before .before .load8 .result) (c .before .load82 .result) (c .load16 .result)
-read c = steps-read _ (start c .pre .0) (c .before .before .load8 .ensures) (c .before .load82 .ensures) (c .load16 .ensures)
+    StepsRead (recordIn (a .s .now)) (a .terms) (a .counts) (a .switch) (c .before .before .load8 .result) (c .before .load82 .result) (c .load16 .result)
+read c = steps-read _ (start c .pre .0) (start c .pre .1 .0) (c .before .before .load8 .ensures) (c .before .load82 .ensures) (c .load16 .ensures)
 
 ready : (c : tie.After-load16) → let a = start c .args in Drawable (planIn (a .s .now)) (a .terms .generators) (a .terms .consumers)
-ready c = draw-ready _ _ (start c .pre .1) (read c)
+ready c = draw-ready _ _ (start c .pre .1 .1 .1) (read c)
 
 small : (c : tie.After-load16) → size c ≤ 128
 small c = mul-le-mul (ready c .G-high) (ready c .C-high)
 
 long : (c : tie.After-load16) → let a = start c .args in length (a .out .now) ≡ size c + (3 * a .terms .generators + 2 * a .terms .consumers)
-long c = output-long _ _ (start c .pre .1) (read c)
+long c = output-long _ _ (start c .pre .1 .1 .1) (read c)
 
 credit-requires : tie.Need-credit-requires
 credit-requires c κs = search needs
@@ -66,6 +66,9 @@ draw-all-requires c κs =
     let r = c .before .before .before in
     (start r .pre .0 .whole, (ready r, mid-len 0 (size r) (start r .args .out .now) (omega (arith, long r)) ∙ omega arith))
 
+lapse-due-requires : tie.Need-lapse-due-requires
+lapse-due-requires c κs = search needs
+
 lapse-requires : tie.Need-lapse-requires
 lapse-requires c κs = search needs
 
@@ -74,7 +77,7 @@ abbrev lapsed : tie.After-balance → tie.After-lapse
 lapsed b = b .before .before .before
 
 abbrev drew : tie.After-balance → tie.After-draw-all
-drew b = lapsed b .before .before .before .before .before
+drew b = lapsed b .before .before .before .before .before .before
 
 abbrev seen : tie.After-balance → tie.After-load16
 seen b = drew b .before .before .before .before
@@ -124,7 +127,7 @@ returns c =
     let r = seen b in
     let all = written-more {ys = w .write-lists .last .0} (length (slice b)) (wrote b) refl (omega (arith, whole b, long r, room b, w .write-lists .kept .0)) in
     written-all all (sym (whole b)) ∙ ap (λ (xs : List ℕ). joined (drawn b ∷ xs ∷ [])) (w .write-lists .ensures) ∙
-    lists-are _ _ (start r .pre .1) (read r) (drew b .before .before .before .credit .ensures) (drew b .draw-all .ensures) (lapsed b .lapse .ensures)
+    lists-are _ _ (start r .pre .1 .1 .1) (read r) (start r .pre .1 .1 .0) (drew b .before .before .before .credit .ensures) (drew b .draw-all .ensures) (lapsed b .before .lapse-due .ensures) (lapsed b .lapse .ensures)
 
 pub make-spec : {M : Type 1} → statement M
 make-spec =
@@ -139,6 +142,7 @@ make-spec =
     part-draw-all-start
     part-draw-all-end
     draw-all-requires
+    lapse-due-requires
     lapse-requires
     mul-write-lists
     sub-write-lists

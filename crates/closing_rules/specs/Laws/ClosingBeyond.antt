@@ -7,7 +7,7 @@ use Rattle.record.specs.Book.{Book, noInjection, noConsumption}
 use Rattle.record.specs.Laws.SoundLaws.{Facts, gen-beyond, con-beyond}
 use Rattle.record.specs.declared.GeneratorTerms.{GeneratorTerms}
 use Rattle.record.specs.declared.ConsumerTerms.{ConsumerTerms}
-use Rattle.closing_rules.specs.Closing.{takenUp, charge, drawn, supplied, lapsed, bankAfter}
+use Rattle.closing_rules.specs.Closing.{charge, drawn, supplied, lapsed, bankAfter}
 use Rattle.closing_rules.specs.Laws.ClosingLaws.{generator-split, consumer-split}
 
 module _ (b : Book) (f : Facts b) where
@@ -21,8 +21,7 @@ module _ (b : Book) (f : Facts b) where
     pending-beyond = ap (λ (x : GeneratorTerms). x .pending) (gen-beyond b f g h)
 
     nothing : charge b g + sum (b .plan .C) (drawn b g) + lapsed b g + bankAfter b g ≡ 0
-    unfolding takenUp
-    nothing = omega (arith, generator-split b g (omega (arith, f .counts .rate-high)), bank-beyond, pending-beyond)
+    nothing = omega (arith, generator-split b f g, bank-beyond, pending-beyond)
 
     pub charge-beyond : charge b g ≡ 0
     charge-beyond = omega (arith, nothing)
@@ -42,7 +41,7 @@ module _ (b : Book) (f : Facts b) where
     open-beyond = ap (λ (x : ConsumerTerms). x .outstanding) (con-beyond b f c h)
 
     pub taken-beyond : sum (b .plan .G) (λ g. drawn b g c) ≡ 0
-    taken-beyond = omega (arith, consumer-split b c, open-beyond)
+    taken-beyond = omega (arith, consumer-split b f c, open-beyond)
 
     pub supplied-beyond : supplied b c ≡ 0
-    supplied-beyond = omega (arith, consumer-split b c, open-beyond)
+    supplied-beyond = omega (arith, consumer-split b f c, open-beyond)

@@ -1,37 +1,36 @@
 -- No number of a closing's output is more than a sound record's. Assumes nothing.
-use Prim.Native.Nat.{ℕ, _≤_}
+use Prim.Native.Nat.{ℕ, _+_, _≤_}
+use mathlib.Core.Path.{_≡_}
 use native.Mathlib.Omega.{arith}
+use Rattle.lists.specs.Sums.{sum}
 use Rattle.energy.specs.Limits.{mostFigure}
 use Rattle.output_lists.specs.Laws.Bounds.{Moderate}
 use Rattle.output_lists.specs.Laws.BoundsLaws.{moderate-table, moderate-rows, no-more, and-then, moderate-joined}
 use Rattle.record.specs.Book.{Book}
 use Rattle.record.specs.Laws.SoundLaws.{Facts, injected-most, metered-most}
-use Rattle.closing_rules.specs.Closing.{takenUp, charge, credited, drawn, supplied, lapsed, bankAfter, closingLists, closingOutput}
-use Rattle.closing_rules.specs.Laws.ClosingLaws.{drawn-most, generator-split, consumer-split}
+use Rattle.closing_rules.specs.Closing.{charge, drawn, supplied, lapsed, bankAfter, closingLists, closingOutput}
+use Rattle.closing_rules.specs.Laws.ClosingLaws.{drawn-had, generator-split, consumer-split}
 
 -- what a closing enters is part of what was pending, banked or open
 module _ (b : Book) (f : Facts b) where
-  rate-low : b .rate ≤ 10_000
-  rate-low = omega (arith, f .counts .rate-high)
+  -- a part of what was pending and banked, which is a part of what was injected
+  of-injected : (g x rest : ℕ) → x + rest ≡ b .gen g .bank + b .gen g .pending → x ≤ mostFigure
+  of-injected g x rest e = omega (arith, injected-most b f g, f .gen g .equation)
 
   charge-small : (g : ℕ) → charge b g ≤ mostFigure
-  unfolding takenUp
-  charge-small g = omega (arith, generator-split b g rate-low, injected-most b f g, f .gen g .equation)
+  charge-small g = of-injected g (charge b g) (sum (b .plan .C) (drawn b g) + lapsed b g + bankAfter b g) (omega (arith, generator-split b f g))
 
   lapsed-small : (g : ℕ) → lapsed b g ≤ mostFigure
-  unfolding takenUp
-  lapsed-small g = omega (arith, generator-split b g rate-low, injected-most b f g, f .gen g .equation)
-
-  drawn-small : (g c : ℕ) → drawn b g c ≤ mostFigure
-  unfolding credited takenUp
-  drawn-small g c = omega (arith, drawn-most b g c, injected-most b f g, f .gen g .equation)
-
-  supplied-small : (c : ℕ) → supplied b c ≤ mostFigure
-  supplied-small c = omega (arith, consumer-split b c, metered-most b f c, f .con c .equation)
+  lapsed-small g = of-injected g (lapsed b g) (charge b g + sum (b .plan .C) (drawn b g) + bankAfter b g) (omega (arith, generator-split b f g))
 
   bank-small : (g : ℕ) → bankAfter b g ≤ mostFigure
-  unfolding takenUp
-  bank-small g = omega (arith, generator-split b g rate-low, injected-most b f g, f .gen g .equation)
+  bank-small g = of-injected g (bankAfter b g) (charge b g + sum (b .plan .C) (drawn b g) + lapsed b g) (omega (arith, generator-split b f g))
+
+  drawn-small : (g c : ℕ) → drawn b g c ≤ mostFigure
+  drawn-small g c = omega (arith, drawn-had b f g c, injected-most b f g, f .gen g .equation)
+
+  supplied-small : (c : ℕ) → supplied b c ≤ mostFigure
+  supplied-small c = omega (arith, consumer-split b f c, metered-most b f c, f .con c .equation)
 
   -- every number of the output fits its 8 bytes
   pub closing-output-moderate : Moderate (closingOutput b)

@@ -1,8 +1,6 @@
--- `closing_totals::start_month` meets its contract: two counts are written. Assumes nothing.
-use mathlib.Core.Path.{_∙_}
+-- `closing_totals::start_month` meets its contract: three counts are written. Assumes nothing.
 use borrow.Author.Needs.{needs}
-use Rattle.closing_totals.specs.Laws.ClosingTotals.{countsAfter}
-use Rattle.closing_totals.specs.Laws.ClosingTotalsLaws.{gone-after}
+use Rattle.closing_totals.specs.Laws.ClosingTotalsLaws.{counts-all}
 use Rattle.closing_totals.proofs.start_month.Statement.{statement}
 use Rattle.closing_totals.proofs.start_month.Tie as tie
 
@@ -15,16 +13,23 @@ put-at-requires c κs = search needs
 put-at-requires-2 : tie.Need-put-at-requires-2
 put-at-requires-2 c κs = search needs
 
+add-put-at : tie.Need-add-put-at
+add-put-at c = search needs
+
+put-at-requires-3 : tie.Need-put-at-requires-3
+put-at-requires-3 c κs = search needs
+
 same-length : tie.Need-same-length
 same-length c = search needs
 
 returns : tie.Need-returns
-unfolding countsAfter
 returns c =
-    let emptied = c .before .before in
+    let counted = c .before .before in
+    let emptied = counted .before .before .before .before .before in
     let entered = emptied .before .before .before .before in
     let next = entered .before .before in
-    emptied .put-at2 .ensures .0 ∙ rw (entered .put-at .ensures .0, next .months-gone .ensures, gone-after _ (next .before .before .pre .0))
+    let start = next .before .before in
+    counts-all _ (start .pre .0) (start .pre .1 .0) (next .months-gone .ensures) (entered .put-at .ensures .0) (emptied .put-at2 .ensures .0) (counted .put-at3 .ensures .0)
 
 pub start-month-spec : {M : Type 1} → statement M
 start-month-spec =
@@ -33,5 +38,7 @@ start-month-spec =
     months-gone-requires
     put-at-requires
     put-at-requires-2
+    add-put-at
+    put-at-requires-3
     same-length
     returns)

@@ -2,7 +2,7 @@
 use mathlib.Core.Path.{_≡_, _∙_, refl, sym, ap}
 use Prim.Native.Nat.{ℕ, zero, suc, _+_, _-_, _*_, _/_, _≤_, _<_}
 use native.Mathlib.Numerals.{add-one}
-use native.Mathlib.Nat.{add-zero, add-suc, suc-mul, mul-add, mul-one, eq-or-lt-of-le}
+use native.Mathlib.Nat.{add-zero, add-suc, zero-mul, suc-mul, mul-add, mul-one, eq-or-lt-of-le}
 use mathlib.Core.Logic.{⊎-elim}
 use native.Mathlib.Nat.{le-trans, le-of-eq, le-div-iff-mul-le, div-mul-le-self, eq-zero-or-pos, div-zero}
 use native.Mathlib.Omega.{arith}
@@ -26,6 +26,17 @@ sum-to n m f h = rw (← (e)) (sum-up n (m - n) f)
   where
     e : n + (m - n) ≡ m
     e = omega arith
+
+pub sum-plus : (m n : ℕ) (f : ℕ → ℕ) → sum (m + n) f ≡ sum m f + sum n (λ i. f (m + i))
+unfolding sum
+sum-plus m zero f = rw add-zero (omega arith)
+sum-plus m (suc n) f = rw add-suc (omega (arith, sum-plus m n f))
+
+-- a sum over n rows of w numbers
+pub sum-rows : (n w : ℕ) (f : ℕ → ℕ) → sum (n * w) f ≡ sum n (λ i. sum w (λ j. f (i * w + j)))
+unfolding sum
+sum-rows zero w f = rw zero-mul
+sum-rows (suc n) w f = ap (λ (k : ℕ). sum k f) (suc-mul n w) ∙ sum-plus (n * w) w f ∙ ap (λ (x : ℕ). x + sum w (λ j. f (n * w + j))) (sum-rows n w f)
 
 pub sum-cap : (n b : ℕ) (f : ℕ → ℕ) → ((k : ℕ) → k < n → f k ≤ b) → sum n f ≤ n * b
 unfolding sum

@@ -9,10 +9,7 @@ use Rattle.agreement_rules.specs.Laws.AgreedPartsLaws.{opened-parts}
 use Rattle.opening.proofs.store_opened.Statement.{statement}
 use Rattle.opening.proofs.store_opened.Tie as tie
 
--- the call that stored a part, seen from the one that stored the next; where the function started, seen from the first
-abbrev start-of : tie.After-store-terms → tie.Start
-start-of c = c .before .before .before .before .before .before .before
-
+-- the call that stored a part, seen from the one that stored the next; where the function started, seen from the links
 abbrev terms-of : tie.After-store-counts → tie.After-store-terms
 terms-of c = c .before .before .before .before .before
 
@@ -31,17 +28,29 @@ schedule-of c = c .before .before .before .before .before
 abbrev generators-of : tie.After-store-consumers → tie.After-store-generators
 generators-of c = c .before .before .before .before .before
 
-wide-requires : tie.Need-wide-requires
-wide-requires c κs = search needs
+abbrev consumers-of : tie.After-store-switch → tie.After-store-consumers
+consumers-of c = c .before .before .before .before .before
 
-wide-requires-2 : tie.Need-wide-requires-2
-wide-requires-2 c κs = search needs
+abbrev switch-of : tie.After-store-stocks → tie.After-store-switch
+switch-of c = c .before .before .before .before .before
+
+abbrev offpeak-of : tie.After-store-stocks2 → tie.After-store-stocks
+offpeak-of c = c .before .before .before .before
+
+abbrev normal-of : tie.After-store-stocks3 → tie.After-store-stocks2
+normal-of c = c .before .before .before .before
+
+abbrev start-of : tie.After-store-agreed → tie.Start
+start-of c = terms-of (counts-of c) .before .before .before .before .before .before
+
+terms-from-requires : tie.Need-terms-from-requires
+terms-from-requires c κs = search needs
 
 store-terms-requires : tie.Need-store-terms-requires
 store-terms-requires c κs = search needs
 
-wide-requires-3 : tie.Need-wide-requires-3
-wide-requires-3 c κs = search needs
+first-counts-requires : tie.Need-first-counts-requires
+first-counts-requires c κs = search needs
 
 store-counts-requires : tie.Need-store-counts-requires
 store-counts-requires c κs = search needs
@@ -53,14 +62,16 @@ store-agreed-requires : tie.Need-store-agreed-requires
 store-agreed-requires c κs = search needs
 
 links-from-requires : tie.Need-links-from-requires
-links-from-requires c κs = search needs
+links-from-requires c κs =
+    let permitted = start-of (c .before .before) .pre .0 in
+    (permitted .pairs-size, (permitted .G-high, permitted .C-high))
 
 store-links-requires : tie.Need-store-links-requires
 store-links-requires c κs = search needs
 
 first-schedule-requires : tie.Need-first-schedule-requires
 first-schedule-requires c κs =
-    let permitted = start-of (terms-of (counts-of (agreed-of (c .before .before)))) .pre .0 in
+    let permitted = start-of (agreed-of (c .before .before)) .pre .0 in
     (permitted .G-high, permitted .C-high)
 
 store-schedule-requires : tie.Need-store-schedule-requires
@@ -78,39 +89,65 @@ no-consumption-requires c κs = search needs
 store-consumers-requires : tie.Need-store-consumers-requires
 store-consumers-requires c κs = search needs
 
+first-switch-requires : tie.Need-first-switch-requires
+first-switch-requires c κs = search needs
+
+store-switch-requires : tie.Need-store-switch-requires
+store-switch-requires c κs = search needs
+
+no-stocks-requires : tie.Need-no-stocks-requires
+no-stocks-requires c κs = search needs
+
+store-stocks-requires : tie.Need-store-stocks-requires
+store-stocks-requires c κs = search needs
+
+store-stocks-requires-2 : tie.Need-store-stocks-requires-2
+store-stocks-requires-2 c κs = search needs
+
+store-stocks-requires-3 : tie.Need-store-stocks-requires-3
+store-stocks-requires-3 c κs = search needs
+
 same-length : tie.Need-same-length
 same-length c =
-    let stored = c .before .before in
-    let links = links-of (schedule-of (generators-of stored)) in
-    stored .store-consumers .ensures .size ∙ sym (start-of (terms-of (counts-of (agreed-of links))) .pre .1)
+    let peak = c .before .before in
+    let consumers = consumers-of (switch-of (offpeak-of (normal-of peak))) in
+    peak .store-stocks3 .ensures .size ∙ sym (start-of (agreed-of (links-of (schedule-of (generators-of consumers)))) .pre .1)
 
 returns : tie.Need-returns
 returns c =
-    let c7 = c .before .before in
+    let c11 = c .before .before in
+    let c10 = normal-of c11 in
+    let c9 = offpeak-of c10 in
+    let c8 = switch-of c9 in
+    let c7 = consumers-of c8 in
     let c6 = generators-of c7 in
     let c5 = schedule-of c6 in
     let c4 = links-of c5 in
     let c3 = agreed-of c4 in
     let c2 = counts-of c3 in
     let c1 = terms-of c2 in
-    let asked = start-of c1 .args in
-    let wide = c1 .before .before .before .wide in
-    let wide2 = c1 .before .before .wide2 in
-    let wide3 = c2 .before .before .wide3 in
+    let terms = c1 .before .before .terms-from in
+    let counts = c2 .before .before .first-counts in
     let agreed = c3 .before .before .agreed-from in
     let links = c4 .before .before .links-from in
     let schedule = c5 .before .before .first-schedule in
     let generators = c6 .before .before .no-injection in
     let consumers = c7 .before .before .no-consumption in
+    let switch = c8 .before .before .first-switch in
+    let stocks = c9 .before .before .no-stocks in
     let r : Record =
     record {
-      terms = record { generators = asked .n; consumers = asked .m; rate = wide .result; cycle = wide2 .result };
-      counts = record { gone = wide3 .result; unitblocks = 0; monthblocks = 0 };
+      terms = terms .result;
+      counts = counts .result;
       agreed = agreed .result;
       links = links .result;
       schedule = schedule .result;
       generators = generators .result;
       consumers = consumers .result;
+      switch = switch .result;
+      offpeak = stocks .result;
+      normal = stocks .result;
+      peak = stocks .result;
     } in
     laid-all (rw (← (words-parts r)) at
     (laid-then (c1 .store-terms .ensures)
@@ -119,18 +156,21 @@ returns c =
     (laid-then (c4 .store-links .ensures)
     (laid-then (c5 .store-schedule .ensures)
     (laid-then (c6 .store-generators .ensures)
-    (c7 .store-consumers .ensures)))))))) ∙
+    (laid-then (c7 .store-consumers .ensures)
+    (laid-then (c8 .store-switch .ensures)
+    (laid-then (c9 .store-stocks .ensures)
+    (laid-then (c10 .store-stocks2 .ensures)
+    (c11 .store-stocks3 .ensures)))))))))))) ∙
     ap (λ (x : Record). encode 8 (words x))
-    (opened-parts _ _ _ _ _ _ _ (wide .ensures) (wide2 .ensures) (wide3 .ensures) (agreed .ensures) (links .ensures) (schedule .ensures) (generators .ensures) (consumers .ensures))
+    (opened-parts _ _ _ _ _ _ _ _ (terms .ensures) (counts .ensures) (agreed .ensures) (links .ensures) (schedule .ensures) (generators .ensures) (consumers .ensures) (switch .ensures) (stocks .ensures))
 
 pub store-opened-spec : {M : Type 1} → statement M
 store-opened-spec =
     tie.close
     (tie.spec
-    wide-requires
-    wide-requires-2
+    terms-from-requires
     store-terms-requires
-    wide-requires-3
+    first-counts-requires
     store-counts-requires
     agreed-from-requires
     store-agreed-requires
@@ -142,5 +182,11 @@ store-opened-spec =
     store-generators-requires
     no-consumption-requires
     store-consumers-requires
+    first-switch-requires
+    store-switch-requires
+    no-stocks-requires
+    store-stocks-requires
+    store-stocks-requires-2
+    store-stocks-requires-3
     same-length
     returns)

@@ -1,7 +1,7 @@
 -- Laws of settling in an order, whatever the order is: nothing is lost, and nobody is left short beside one who has.
 -- Assumes nothing.
 use Prim.Native.Nat.{ℕ, zero, suc, _+_, _-_, _≤_, _<_, min}
-use mathlib.Core.Path.{_≡_, refl, sym, ap, _∙_, subst}
+use mathlib.Core.Path.{_≡_, refl, sym, ap, _∙_, subst, fun-ext}
 use mathlib.Core.Bool.{Bool, true, false}
 use mathlib.Core.List.{List, [], _∷_}
 use mathlib.Core.Logic.{_⊎_, inl, inr, ⊎-elim}
@@ -14,7 +14,7 @@ use Rattle.lists.specs.Laws.SumsLaws.{sum-cong, sum-add}
 use Rattle.lists.specs.Choice.{if_then_else_}
 use Rattle.order_rules.specs.Order.{Standing}
 use Rattle.order_rules.specs.Settle.{lower, settle, given, kept, unmet}
-use Rattle.order_rules.specs.Laws.Members.{In, Below}
+use Rattle.order_rules.specs.Laws.Members.{In, Below, Before}
 use Rattle.order_rules.specs.Laws.OrderLaws.{Ahead, Sorted, ahead-not-both, all-of-at}
 
 -- ---- one giver
@@ -140,12 +140,28 @@ lower-none has g x h e = go (eqb h g)
     go true = omega arith
     go false = refl
 
-settle-nothing : (gs : List ℕ) (has : ℕ → ℕ) (want h : ℕ) → want ≡ 0 → settle gs has want .has h ≡ has h
+-- one that stands twice in a row gives what it gives once
+pub settle-twice : (g : ℕ) (gs : List ℕ) (has : ℕ → ℕ) (want : ℕ) → settle (g ∷ g ∷ gs) has want ≡ settle (g ∷ gs) has want
+unfolding settle
+settle-twice g gs has want =
+    let x = min (has g) want in
+    let y = min (lower has g x g) (want - x) in
+    let none : y ≡ 0 = omega (arith, lower-at has g x) in
+    let same : lower (lower has g x) g y ≡ lower has g x = fun-ext (λ h. lower-none (lower has g x) g y h none) in
+    let rest : want - x - y ≡ want - x = omega (arith, none) in
+    λ i. settle gs (same i) (rest i)
+
+pub settle-nothing : (gs : List ℕ) (has : ℕ → ℕ) (want h : ℕ) → want ≡ 0 → settle gs has want .has h ≡ has h
 unfolding settle
 settle-nothing [] has want h e = refl
 settle-nothing (g ∷ gs) has want h e =
     let y = min (has g) want in
     settle-nothing gs (lower has g y) (want - y) h (omega arith) ∙ lower-none has g y h (omega arith)
+
+-- nobody gives where nothing is wanted
+pub given-nothing : (gs : List ℕ) (has : ℕ → ℕ) (want g : ℕ) → want ≡ 0 → given gs has want g ≡ 0
+unfolding given
+given-nothing gs has want g e = omega (arith, settle-nothing gs has want g e)
 
 given-tail : (x : ℕ) (gs : List ℕ) (has : ℕ → ℕ) (want g : ℕ) → (g ≡ x → ⊥) →
     given (x ∷ gs) has want g ≡ given gs (lower has x (min (has x) want)) (want - min (has x) want) g
@@ -166,20 +182,28 @@ head-first g gs has want h ne l = go (leb (has g) want) refl
         let z : want - y ≡ 0 = omega arith in
         absurd (omega (arith, settle-nothing gs (lower has g y) (want - y) h z, lower-other has g y h ne))
 
-ahead-other : (who : ℕ → Standing) (g h : ℕ) → Ahead who g h → h ≡ g → ⊥
-ahead-other who g h a e = ahead-not-both who g h a (subst (λ (x : ℕ). Ahead who x g) (sym e) (subst (λ (x : ℕ). Ahead who g x) e a))
+pub before-first : (gs : List ℕ) (has : ℕ → ℕ) (want s u : ℕ) → Before s u gs → 0 < given gs has want u → given gs has want s ≡ has s
+unfolding given settle
+before-first [] has want s u m l = absurd m
+before-first (x ∷ gs) has want s u m l =
+    let y = min (has x) want in
+    let more : 0 < given gs (lower has x y) (want - y) u = omega (arith, given-tail x gs has want u (m .0)) in
+    ⊎-elim
+    (λ (e : s ≡ x). rw e (head-first x gs has want u (m .0) l))
+    (λ (n : Before s u gs). omega (arith, before-first gs (lower has x y) (want - y) s u n more, settle-has gs (lower has x y) (want - y) s))
+    (m .1)
 
 module _ (who : ℕ → Standing) where
+  ahead-other : (g h : ℕ) → Ahead who g h → h ≡ g → ⊥
+  ahead-other g h a e = ahead-not-both who g h a (subst (λ (x : ℕ). Ahead who x g) (sym e) (subst (λ (x : ℕ). Ahead who g x) e a))
+
+  -- in a sorted list who goes ahead stands before
+  pub sorted-before : (gs : List ℕ) (g h : ℕ) → Sorted who gs → In g gs → Ahead who g h → Before g h gs
+  sorted-before [] g h s m a = absurd m
+  sorted-before (x ∷ gs) g h s (inl e) a = (λ q. ahead-other g h a (q ∙ sym e), inl e)
+  sorted-before (x ∷ gs) g h s (inr m) a =
+      (λ q. ahead-not-both who g h a (rw q (all-of-at (Ahead who x) gs g (s .0) m)), inr (sorted-before gs g h (s .1) m a))
+
   pub earlier-first : (gs : List ℕ) (has : ℕ → ℕ) (want g h : ℕ) → Sorted who gs → In g gs → In h gs → Ahead who g h →
       0 < given gs has want h → given gs has want g ≡ has g
-  earlier-first [] has want g h s m k a l = absurd m
-  earlier-first (x ∷ gs) has want g h s (inl e) k a l =
-      subst (λ (z : ℕ). given (x ∷ gs) has want z ≡ has z) (sym e)
-      (head-first x gs has want h (λ q. ahead-other who g h a (q ∙ sym e)) l)
-  earlier-first (x ∷ gs) has want g h s (inr m) (inl e) a l =
-      absurd (ahead-not-both who g h a (subst (λ (z : ℕ). Ahead who z g) (sym e) (all-of-at (Ahead who x) gs g (s .0) m)))
-  earlier-first (x ∷ gs) has want g h s (inr m) (inr k) a l =
-      let apart : (z : ℕ) → In z gs → z ≡ x → ⊥ = λ z i. ahead-other who x z (all-of-at (Ahead who x) gs z (s .0) i) in
-      let y = min (has x) want in
-      let t : 0 < given gs (lower has x y) (want - y) h = omega (arith, given-tail x gs has want h (apart h k)) in
-      given-tail x gs has want g (apart g m) ∙ earlier-first gs (lower has x y) (want - y) g h (s .1) m k a t ∙ lower-other has x y g (apart g m)
+  earlier-first gs has want g h s m k a l = before-first gs has want g h (sorted-before gs g h s m a) l

@@ -10,10 +10,10 @@ use Rattle.lists.specs.Laws.TablesLaws.{length-table, getD-table, table-same}
 use Rattle.lists.specs.Pairs.{place, cell, pairs, joined}
 use Rattle.lists.specs.Laws.PairsLaws.{length-pairs, getD-pairs, cell-in, place-in}
 use Rattle.record.specs.Book.{Book}
-use Rattle.record.specs.Stored.{stored, storedGenerators, storedConsumers}
+use Rattle.record.specs.Stored.{stored, storedGenerators, storedConsumers, storedStocks}
 use Rattle.record.specs.RecordWords.{agreedOf, runs, runLengths, total, words, cut, fromRuns, recordOf}
 use Rattle.record_places.specs.RecordSize.{recordNumbers}
-use Rattle.record_places.specs.Laws.Places.{generatorCountAt, agreedAt, linkAt, lossAt, kwAt, rankAt, injectedAt, unaccountedAt, lostAt, generatorSetOffAt, inadvertentAt, chargeAt, generatorDrawnAt, lapsedAt, bankAt, pendingAt, meteredAt, consumerSetOffAt, shortfallAt, consumerDrawnAt, suppliedAt, outstandingAt}
+use Rattle.record_places.specs.Laws.Places.{generatorCountAt, agreedAt, linkAt, lossAt, kwAt, rankAt, injectedAt, unaccountedAt, lostAt, generatorSetOffAt, inadvertentAt, chargeAt, generatorDrawnAt, lapsedAt, bankAt, pendingAt, meteredAt, consumerSetOffAt, shortfallAt, consumerDrawnAt, suppliedAt, outstandingAt, switchMonthAt, offPeakAt, normalAt, peakAt}
 
 -- the record's runs have as many numbers as its size says
 pub words-count : total runLengths ≡ recordNumbers
@@ -28,7 +28,8 @@ starts at (n ∷ ns) = at ∷ starts (at + n) ns
 -- each list of the record starts where its name says
 pub run-starts : starts 0 runLengths ≡
     generatorCountAt ∷ agreedAt ∷ linkAt ∷ lossAt ∷ kwAt ∷ rankAt ∷ injectedAt ∷ unaccountedAt ∷ lostAt ∷ generatorSetOffAt ∷ inadvertentAt ∷
-    chargeAt ∷ generatorDrawnAt ∷ lapsedAt ∷ bankAt ∷ pendingAt ∷ meteredAt ∷ consumerSetOffAt ∷ shortfallAt ∷ consumerDrawnAt ∷ suppliedAt ∷ outstandingAt ∷ []
+    chargeAt ∷ generatorDrawnAt ∷ lapsedAt ∷ bankAt ∷ pendingAt ∷ meteredAt ∷ consumerSetOffAt ∷ shortfallAt ∷ consumerDrawnAt ∷ suppliedAt ∷ outstandingAt ∷
+    switchMonthAt ∷ offPeakAt ∷ (offPeakAt + 8) ∷ (offPeakAt + 16) ∷ normalAt ∷ (normalAt + 8) ∷ (normalAt + 16) ∷ peakAt ∷ (peakAt + 8) ∷ (peakAt + 16) ∷ []
 unfolding starts runLengths
 run-starts = refl
 
@@ -56,8 +57,8 @@ length-runs (n ∷ ns) (xs ∷ xss) h = omega (arith, length-append xs (joined x
 
 module _ (b : Book) where
   pub stored-runs : Sized runLengths (runs (stored b))
-  unfolding runLengths runs stored storedGenerators storedConsumers
-  stored-runs = (refl, (length-pairs 8 3 _, (length-pairs 8 16 _, (length-pairs 8 16 _, (length-pairs 8 16 _, (length-pairs 8 16 _, (length-table 8 _, (length-table 8 _, (length-table 8 _, (length-table 8 _, (length-table 8 _, (length-table 8 _, (length-table 8 _, (length-table 8 _, (length-table 8 _, (length-table 8 _, (length-table 16 _, (length-table 16 _, (length-table 16 _, (length-table 16 _, (length-table 16 _, (length-table 16 _, tt))))))))))))))))))))))
+  unfolding runLengths runs stored storedGenerators storedConsumers storedStocks
+  stored-runs = (refl, (length-pairs 8 3 _, (length-pairs 8 16 _, (length-pairs 8 16 _, (length-pairs 8 16 _, (length-pairs 8 16 _, (length-table 8 _, (length-table 8 _, (length-table 8 _, (length-table 8 _, (length-table 8 _, (length-table 8 _, (length-table 8 _, (length-table 8 _, (length-table 8 _, (length-table 8 _, (length-table 16 _, (length-table 16 _, (length-table 16 _, (length-table 16 _, (length-table 16 _, (length-table 16 _, (refl, (length-table 8 _, (length-table 8 _, (length-table 16 _, (length-table 8 _, (length-table 8 _, (length-table 16 _, (length-table 8 _, (length-table 8 _, (length-table 16 _, tt))))))))))))))))))))))))))))))))
 
   pub length-words : length (words (stored b)) ≡ recordNumbers
   unfolding words
@@ -87,6 +88,10 @@ module _ (b : Book) where
         schedule = stored b .schedule;
         generators = stored b .generators;
         consumers = stored b .consumers;
+        switch = stored b .switch;
+        offpeak = stored b .offpeak;
+        normal = stored b .normal;
+        peak = stored b .peak;
       }
 
   pub record-of-words : recordOf (words (stored b)) ≡ stored b

@@ -8,12 +8,13 @@ use Rattle.lists.specs.Tables.{table}
 use Rattle.lists.specs.Laws.TablesLaws.{is-table}
 use Rattle.lists.specs.Pairs.{place, cell, pairs}
 use Rattle.lists.specs.Laws.PairsLaws.{place-in, cell-in, pairs-table}
-use Rattle.record.specs.Stored.{generatorAt, consumerAt, planOf, figures, storedGenerators, storedConsumers, stored}
+use Rattle.record.specs.Stored.{generatorAt, consumerAt, classAt, hoursOf, planOf, figures, storedGenerators, storedConsumers, storedStocks, stored}
 use Rattle.record.specs.declared.Agreed.{Agreed}
 use Rattle.record.specs.declared.Links.{Links}
 use Rattle.record.specs.declared.Schedule.{Schedule}
 use Rattle.record.specs.declared.Generators.{Generators}
 use Rattle.record.specs.declared.Consumers.{Consumers}
+use Rattle.record.specs.declared.Stocks.{Stocks}
 use Rattle.record.specs.declared.Record.{Record}
 
 pub record AgreedShape (x : Agreed) : Type 0 where
@@ -49,12 +50,20 @@ pub record ConsumersShape (x : Consumers) : Type 0 where
   pub supplied : length (x .supplied) ≡ 16
   pub outstanding : length (x .outstanding) ≡ 16
 
+pub record StocksShape (x : Stocks) : Type 0 where
+  pub bank : length (x .bank) ≡ 8
+  pub pending : length (x .pending) ≡ 8
+  pub outstanding : length (x .outstanding) ≡ 16
+
 pub record Shape (r : Record) : Type 0 where
   pub agreed : AgreedShape (r .agreed)
   pub links : LinksShape (r .links)
   pub schedule : ScheduleShape (r .schedule)
   pub generators : GeneratorsShape (r .generators)
   pub consumers : ConsumersShape (r .consumers)
+  pub offpeak : StocksShape (r .offpeak)
+  pub normal : StocksShape (r .normal)
+  pub peak : StocksShape (r .peak)
 
 -- ---- a list stored again
 
@@ -97,8 +106,17 @@ consumers-kept x s =
       outstanding = table-place 16 (x .outstanding) (s .outstanding) i;
     }
 
+pub stocks-kept : (x : Stocks) → StocksShape x → storedStocks (classAt x) ≡ x
+unfolding storedStocks classAt
+stocks-kept x s =
+    λ i. record {
+      bank = table-place 8 (x .bank) (s .bank) i;
+      pending = table-place 8 (x .pending) (s .pending) i;
+      outstanding = table-place 16 (x .outstanding) (s .outstanding) i;
+    }
+
 pub record-kept : (r : Record) → Shape r → stored (figures r) ≡ r
-unfolding stored figures planOf
+unfolding stored figures planOf hoursOf
 record-kept r s =
     λ i. record {
       terms = r .terms;
@@ -113,4 +131,8 @@ record-kept r s =
       schedule = record { kw = pairs-cell (r .schedule .kw) (s .schedule .kw) i; rank = pairs-cell (r .schedule .rank) (s .schedule .rank) i };
       generators = generators-kept (r .generators) (s .generators) i;
       consumers = consumers-kept (r .consumers) (s .consumers) i;
+      switch = r .switch;
+      offpeak = stocks-kept (r .offpeak) (s .offpeak) i;
+      normal = stocks-kept (r .normal) (s .normal) i;
+      peak = stocks-kept (r .peak) (s .peak) i;
     }

@@ -1,21 +1,23 @@
 -- From the test of soundness to facts, and back. Assumes nothing.
-use Prim.Native.Nat.{ℕ, _*_, _≤_, _<_}
-use mathlib.Core.Path.{_≡_, refl, _∙_, sym, subst}
-use mathlib.Core.Bool.{Bool, true, false, _&&_, _||_, false≢true}
+use Prim.Native.Nat.{ℕ, _+_, _*_, _≤_, _<_}
+use mathlib.Core.Path.{_≡_, refl, ap, _∙_, sym, subst}
+use mathlib.Core.Bool.{Bool, true, false, _&&_, _||_, not, false≢true}
 use mathlib.Core.List.{[], _∷_}
 use mathlib.Core.Logic.{_⊎_, inl, inr}
 use native.Mathlib.Omega.{arith}
 use lib.Dec.{eqb, leb, ltb}
 use lib.ListN.{getD}
 use borrow.Author.Tests.{leb-true, eqb-true, eqb-false, ltb-true, ltb-false, le-leb, lt-ltb, le-ltb, eq-eqb}
+use Rattle.lists.specs.Sums.{sum}
 use Rattle.lists.specs.Laws.SumsLaws.{sum-zero, sum-part}
 use Rattle.lists.specs.Tests.{all, within}
 use Rattle.lists.specs.Laws.TestsLaws.{all-at, all-from, and-left, and-right, and-both, chain-at, within-low, within-high, within-from}
-use Rattle.energy.specs.Limits.{mostGenerators, mostConsumers, lastKind, mostCapacity, mostLoss, mostRate, mostCycle, mostRank, mostReading, mostMonthBlocks, mostUnitBlocks, mostFigure}
+use Rattle.energy.specs.Limits.{mostGenerators, mostConsumers, lastKind, mostCapacity, mostLoss, mostRate, mostCycle, mostRank, mostReading, mostMonthBlocks, mostUnitBlocks, mostFigure, mostSwitch}
 use Rattle.record.specs.Plan.{lowerCapacity, scheduled}
 use Rattle.record.specs.Laws.Orderable.{Orderable}
-use Rattle.record.specs.Book.{Book, splitOfInjected, splitOfMetered, noInjection, noConsumption}
-use Rattle.record.specs.Sound.{limit, countsSound, agreedSound, pairSound, generatorSound, consumerSound, sound}
+use Rattle.record.specs.Book.{Book, ClassStocks, byHours, splitOfInjected, splitOfMetered, noInjection, noConsumption, noStocks}
+use Rattle.record.specs.Hours.{classes}
+use Rattle.record.specs.Sound.{limit, countsSound, agreedSound, pairSound, generatorSound, consumerSound, switchSound, classesSound, bankTotal, pendingTotal, openTotal, generatorHours, consumerHours, sound}
 use Rattle.record.specs.declared.GeneratorTerms.{GeneratorTerms}
 use Rattle.record.specs.declared.ConsumerTerms.{ConsumerTerms}
 
@@ -59,6 +61,11 @@ pub record ConsumerFacts (blocks : ℕ) (inside : Bool) (x : ConsumerTerms) : Ty
   pub equation : x .metered ≡ splitOfMetered x
   pub beyond : inside ≡ false → x .metered ≡ 0
 
+pub record SwitchFacts (hours : Bool) (switch closings gone blocks month : ℕ) : Type 0 where
+  pub switch-high : switch ≤ mostSwitch
+  pub closings-blocks : closings + month ≤ blocks
+  pub gone-none : hours ≡ true → gone ≡ 0
+
 -- what soundness says of every place, those beyond 8 and 16 too
 pub record Facts (b : Book) : Type 0 where
   pub counts : CountsFacts (b .plan .G) (b .plan .C) (b .rate) (b .cycle) (b .gone) (b .unitblocks) (b .monthblocks)
@@ -66,6 +73,12 @@ pub record Facts (b : Book) : Type 0 where
   pub pair : (g c : ℕ) → PairFacts (ltb g (b .plan .G) && ltb c (b .plan .C)) (b .plan .link g c) (b .plan .loss g c) (b .plan .kw g c) (b .plan .rank g c)
   pub gen : (g : ℕ) → GeneratorFacts (b .unitblocks) (ltb g (b .plan .G)) (b .gen g)
   pub con : (c : ℕ) → ConsumerFacts (b .unitblocks) (ltb c (b .plan .C)) (b .con c)
+  pub switch : SwitchFacts (byHours b) (b .switch) (b .closings) (b .gone) (b .unitblocks) (b .monthblocks)
+  pub hours-bank : (g : ℕ) → bankTotal b g ≡ limit (byHours b) (b .gen g .bank)
+  pub hours-pending : (g : ℕ) → pendingTotal b g ≡ limit (byHours b) (b .gen g .pending)
+  pub hours-open : (c : ℕ) → openTotal b c ≡ limit (byHours b) (b .con c .outstanding)
+  -- there are three classes
+  pub hours-three : (k : ℕ) → 3 ≤ k → b .hours k ≡ noStocks
 
 -- every figure beyond the record's 8 and 16 places is 0
 pub record Cut (b : Book) : Type 0 where
@@ -78,6 +91,10 @@ pub record Cut (b : Book) : Type 0 where
   pub rank : (g c : ℕ) → (8 ≤ g) ⊎ (16 ≤ c) → b .plan .rank g c ≡ 0
   pub gen : (g : ℕ) → 8 ≤ g → b .gen g ≡ noInjection
   pub con : (c : ℕ) → 16 ≤ c → b .con c ≡ noConsumption
+  pub bank : (k g : ℕ) → 8 ≤ g → b .hours k .bank g ≡ 0
+  pub pending : (k g : ℕ) → 8 ≤ g → b .hours k .pending g ≡ 0
+  pub outstanding : (k c : ℕ) → 16 ≤ c → b .hours k .outstanding c ≡ 0
+  pub three : (k : ℕ) → 3 ≤ k → b .hours k ≡ noStocks
 
 -- ---- limits
 
@@ -242,6 +259,25 @@ module _ (blocks : ℕ) (inside : Bool) where
   unfolding consumerSound
   facts-consumer x f = and-both (limit-from inside (x .metered) (mostReading * blocks) (f .metered) (f .beyond)) (eq-eqb _ _ (f .equation))
 
+module _ (hours : Bool) (switch closings gone blocks month : ℕ) where
+  none-gone : (t : Bool) → not t || eqb gone 0 ≡ true → t ≡ true → gone ≡ 0
+  none-gone true e z = eqb-true gone 0 e
+  none-gone false e z = absurd (false≢true z)
+
+  gone-either : (t : Bool) → (t ≡ true → gone ≡ 0) → not t || eqb gone 0 ≡ true
+  gone-either true h = eq-eqb gone 0 (h refl)
+  gone-either false h = refl
+
+  pub switch-facts : switchSound hours switch closings gone blocks month ≡ true → SwitchFacts hours switch closings gone blocks month
+  unfolding switchSound
+  switch-facts e =
+      let w = chain-at (leb switch mostSwitch) (leb (closings + month) blocks ∷ (not hours || eqb gone 0) ∷ []) e in
+      record { switch-high = leb-true _ _ (w 0); closings-blocks = leb-true _ _ (w 1); gone-none = none-gone hours (w 2) }
+
+  pub facts-switch : SwitchFacts hours switch closings gone blocks month → switchSound hours switch closings gone blocks month ≡ true
+  unfolding switchSound
+  facts-switch f = and-both (and-both (le-leb _ _ (f .switch-high)) (le-leb _ _ (f .closings-blocks))) (gone-either hours (f .gone-none))
+
 -- nothing at all
 pub no-injection : (blocks : ℕ) (inside : Bool) → GeneratorFacts blocks inside noInjection
 unfolding noInjection
@@ -338,10 +374,16 @@ module _ (b : Book) where
   abbrev countsAt : Bool
   countsAt = countsSound (b .plan .G) (b .plan .C) (b .rate) (b .cycle) (b .gone) (b .unitblocks) (b .monthblocks)
 
+  abbrev switchAt : Bool
+  switchAt = switchSound (byHours b) (b .switch) (b .closings) (b .gone) (b .unitblocks) (b .monthblocks)
+
   pub facts-sound : Facts b → sound b ≡ true
-  unfolding sound
+  unfolding sound generatorHours consumerHours classesSound
   facts-sound f =
       and-both (facts-counts _ _ _ _ _ _ _ (f .counts))
+      (and-both
+      (and-both
+      (and-both
       (and-both
       (and-both
       (and-both
@@ -349,18 +391,21 @@ module _ (b : Book) where
       (all-from 8 (λ g. all 16 (pairAt g)) (λ g l. all-from 16 (pairAt g) (λ c k. facts-pair _ _ _ _ _ (f .pair g c)))))
       (all-from 8 genAt (λ g l. facts-generator _ _ _ (f .gen g))))
       (all-from 16 conAt (λ c l. facts-consumer _ _ _ (f .con c))))
+      (facts-switch _ _ _ _ _ _ (f .switch)))
+      (all-from 8 (generatorHours b) (λ g l. and-both (eq-eqb _ _ (f .hours-bank g)) (eq-eqb _ _ (f .hours-pending g)))))
+      (all-from 16 (consumerHours b) (λ c l. eq-eqb _ _ (f .hours-open c))))
 
   module _ (cut : Cut b) (e : sound b ≡ true) where
     rest : Bool
-    rest = all 8 agreedAt && all 8 (λ g. all 16 (pairAt g)) && all 8 genAt && all 16 conAt
+    rest = all 8 agreedAt && all 8 (λ g. all 16 (pairAt g)) && all 8 genAt && all 16 conAt && switchAt && all 8 (generatorHours b) && all 16 (consumerHours b)
 
     counts : CountsFacts (b .plan .G) (b .plan .C) (b .rate) (b .cycle) (b .gone) (b .unitblocks) (b .monthblocks)
     unfolding sound rest
     counts = counts-facts _ _ _ _ _ _ _ (and-left countsAt rest e)
 
-    parts : (i : ℕ) → getD (all 8 agreedAt ∷ all 8 (λ g. all 16 (pairAt g)) ∷ all 8 genAt ∷ all 16 conAt ∷ []) i true ≡ true
+    parts : (i : ℕ) → getD (all 8 agreedAt ∷ all 8 (λ g. all 16 (pairAt g)) ∷ all 8 genAt ∷ all 16 conAt ∷ switchAt ∷ all 8 (generatorHours b) ∷ all 16 (consumerHours b) ∷ []) i true ≡ true
     unfolding sound rest
-    parts = chain-at (all 8 agreedAt) (all 8 (λ g. all 16 (pairAt g)) ∷ all 8 genAt ∷ all 16 conAt ∷ []) (and-right countsAt rest e)
+    parts = chain-at (all 8 agreedAt) (all 8 (λ g. all 16 (pairAt g)) ∷ all 8 genAt ∷ all 16 conAt ∷ switchAt ∷ all 8 (generatorHours b) ∷ all 16 (consumerHours b) ∷ []) (and-right countsAt rest e)
 
     beyond-G : (g : ℕ) → 8 ≤ g → ltb g (b .plan .G) ≡ false
     beyond-G g h = le-ltb g (b .plan .G) (omega (arith, counts .G-high))
@@ -424,8 +469,36 @@ module _ (b : Book) where
         go true l = consumer-facts _ _ _ (all-at 16 conAt (parts 3) c (ltb-true c 16 l))
         go false l = subst (ConsumerFacts (b .unitblocks) (ltb c (b .plan .C))) (sym (cut .con c (ltb-false c 16 l))) (no-consumption (b .unitblocks) (ltb c (b .plan .C)))
 
+    limit-zero : (t : Bool) → limit t 0 ≡ 0
+    limit-zero true = refl
+    limit-zero false = refl
+
+    bank-sum : (g : ℕ) → bankTotal b g ≡ limit (byHours b) (b .gen g .bank)
+    unfolding bankTotal generatorHours classesSound noInjection
+    bank-sum g = go (ltb g 8) refl
+      where
+        go : (t : Bool) → ltb g 8 ≡ t → sum classes (λ k. b .hours k .bank g) ≡ limit (byHours b) (b .gen g .bank)
+        go true l = eqb-true _ _ (and-left (classesSound (byHours b) (b .gen g .bank) (bankTotal b g)) _ (all-at 8 (generatorHours b) (parts 5) g (ltb-true g 8 l)))
+        go false l = let h = ltb-false g 8 l in rw (cut .gen g h) (sum-zero classes (λ k. b .hours k .bank g) (λ k m. cut .bank k g h) ∙ sym (limit-zero (byHours b)))
+
+    pending-sum : (g : ℕ) → pendingTotal b g ≡ limit (byHours b) (b .gen g .pending)
+    unfolding pendingTotal generatorHours classesSound noInjection
+    pending-sum g = go (ltb g 8) refl
+      where
+        go : (t : Bool) → ltb g 8 ≡ t → sum classes (λ k. b .hours k .pending g) ≡ limit (byHours b) (b .gen g .pending)
+        go true l = eqb-true _ _ (and-right (classesSound (byHours b) (b .gen g .bank) (bankTotal b g)) _ (all-at 8 (generatorHours b) (parts 5) g (ltb-true g 8 l)))
+        go false l = let h = ltb-false g 8 l in rw (cut .gen g h) (sum-zero classes (λ k. b .hours k .pending g) (λ k m. cut .pending k g h) ∙ sym (limit-zero (byHours b)))
+
+    open-sum : (c : ℕ) → openTotal b c ≡ limit (byHours b) (b .con c .outstanding)
+    unfolding openTotal consumerHours classesSound noConsumption
+    open-sum c = go (ltb c 16) refl
+      where
+        go : (t : Bool) → ltb c 16 ≡ t → sum classes (λ k. b .hours k .outstanding c) ≡ limit (byHours b) (b .con c .outstanding)
+        go true l = eqb-true _ _ (all-at 16 (consumerHours b) (parts 6) c (ltb-true c 16 l))
+        go false l = let h = ltb-false c 16 l in rw (cut .con c h) (sum-zero classes (λ k. b .hours k .outstanding c) (λ k m. cut .outstanding k c h) ∙ sym (limit-zero (byHours b)))
+
     pub sound-facts : Facts b
-    sound-facts = record { counts = counts; agreed = agreed; pair = pair; gen = gen; con = con }
+    sound-facts = record { counts = counts; agreed = agreed; pair = pair; gen = gen; con = con; switch = switch-facts _ _ _ _ _ _ (parts 4); hours-bank = bank-sum; hours-pending = pending-sum; hours-open = open-sum; hours-three = cut .three }
 
 -- ---- from the facts of a place
 
@@ -444,6 +517,40 @@ module _ (b : Book) (f : Facts b) where
   pub con-beyond : (c : ℕ) → b .plan .C ≤ c → b .con c ≡ noConsumption
   con-beyond c h = empty-consumer (b .con c) (f .con c .equation) (f .con c .beyond (le-ltb c (b .plan .C) h))
 
+  -- a class holds at most its place
+  limit-most : (t : Bool) (x : ℕ) → limit t x ≤ x
+  limit-most true x = omega arith
+  limit-most false x = omega arith
+
+  class-part : (v : ClassStocks → ℕ) (whole : ℕ) → v noStocks ≡ 0 → sum classes (λ k. v (b .hours k)) ≡ limit (byHours b) whole → (k : ℕ) → v (b .hours k) ≤ whole
+  class-part v whole z e k = go (ltb k 3) refl
+    where
+      go : (t : Bool) → ltb k 3 ≡ t → v (b .hours k) ≤ whole
+      go true l = omega (arith, sum-part classes (λ k. v (b .hours k)) k (ltb-true k 3 l), e, limit-most (byHours b) whole)
+      go false l = omega (arith, ap v (f .hours-three k (ltb-false k 3 l)), z)
+
+  pub class-bank : (k g : ℕ) → b .hours k .bank g ≤ b .gen g .bank
+  unfolding bankTotal noStocks
+  class-bank k g = class-part (λ t. t .bank g) (b .gen g .bank) refl (f .hours-bank g) k
+
+  pub class-pending : (k g : ℕ) → b .hours k .pending g ≤ b .gen g .pending
+  unfolding pendingTotal noStocks
+  class-pending k g = class-part (λ t. t .pending g) (b .gen g .pending) refl (f .hours-pending g) k
+
+  pub class-open : (k c : ℕ) → b .hours k .outstanding c ≤ b .con c .outstanding
+  unfolding openTotal noStocks
+  class-open k c = class-part (λ t. t .outstanding c) (b .con c .outstanding) refl (f .hours-open c) k
+
+  class-low : (k g : ℕ) → b .plan .G ≤ g → (b .hours k .bank g ≡ 0) × (b .hours k .pending g ≡ 0)
+  unfolding noInjection
+  class-low k g h =
+      let e = gen-beyond g h in
+      (omega (arith, class-bank k g, ap (λ (x : GeneratorTerms). x .bank) e), omega (arith, class-pending k g, ap (λ (x : GeneratorTerms). x .pending) e))
+
+  open-low : (k c : ℕ) → b .plan .C ≤ c → b .hours k .outstanding c ≡ 0
+  unfolding noConsumption
+  open-low k c h = omega (arith, class-open k c, ap (λ (x : ConsumerTerms). x .outstanding) (con-beyond c h))
+
   -- sound figures are 0 beyond the record's places
   pub facts-cut : Cut b
   facts-cut =
@@ -457,6 +564,10 @@ module _ (b : Book) (f : Facts b) where
         rank = λ g c o. pair-beyond g c (wider g c o) .1 .1 .1;
         gen = λ g h. gen-beyond g (omega (arith, f .counts .G-high));
         con = λ c h. con-beyond c (omega (arith, f .counts .C-high));
+        bank = λ k g h. class-low k g (omega (arith, f .counts .G-high)) .0;
+        pending = λ k g h. class-low k g (omega (arith, f .counts .G-high)) .1;
+        outstanding = λ k c h. open-low k c (omega (arith, f .counts .C-high));
+        three = f .hours-three;
       }
     where
       wider : (g c : ℕ) → (8 ≤ g) ⊎ (16 ≤ c) → (b .plan .G ≤ g) ⊎ (b .plan .C ≤ c)

@@ -1,13 +1,14 @@
 -- A record's figures and the record stored of figures are each other's inverse. Assumes nothing.
-use Prim.Native.Nat.{ℕ, _≤_}
-use mathlib.Core.Path.{_≡_, refl, ap, _∙_}
+use Prim.Native.Nat.{ℕ, zero, suc, _≤_}
+use mathlib.Core.Path.{_≡_, refl, ap, _∙_, sym}
+use native.Mathlib.Omega.{arith}
 use mathlib.Core.Bool.{false}
 use Rattle.lists.specs.Tables.{table}
 use Rattle.lists.specs.Tests.{within}
 use Rattle.lists.specs.Pairs.{place}
 use Rattle.lists.specs.Laws.PairsLaws.{place-out, cell-out, place-table, cell-pairs}
-use Rattle.record.specs.Book.{Book, noInjection, noConsumption}
-use Rattle.record.specs.Stored.{generatorAt, consumerAt, planOf, figures, storedGenerators, storedConsumers, stored, zeros}
+use Rattle.record.specs.Book.{Book, ClassStocks, noInjection, noConsumption, noStocks}
+use Rattle.record.specs.Stored.{generatorAt, consumerAt, classAt, hoursOf, planOf, figures, storedGenerators, storedConsumers, storedStocks, stored, zeros}
 use Rattle.record.specs.Sound.{countsSound, sound}
 use Rattle.record.specs.Laws.SoundLaws.{Cut}
 use Rattle.record.specs.declared.Record.{Record}
@@ -44,6 +45,35 @@ consumer-out t c h =
       outstanding = place-out 16 (t .outstanding) c h i;
     }
 
+module _ (r : Record) where
+  bank-out : (k g : ℕ) → 8 ≤ g → hoursOf r k .bank g ≡ 0
+  unfolding hoursOf classAt noStocks
+  bank-out zero g h = place-out 8 (r .offpeak .bank) g h
+  bank-out (suc zero) g h = place-out 8 (r .normal .bank) g h
+  bank-out (suc (suc zero)) g h = place-out 8 (r .peak .bank) g h
+  bank-out (suc (suc (suc k))) g h = refl
+
+  pending-out : (k g : ℕ) → 8 ≤ g → hoursOf r k .pending g ≡ 0
+  unfolding hoursOf classAt noStocks
+  pending-out zero g h = place-out 8 (r .offpeak .pending) g h
+  pending-out (suc zero) g h = place-out 8 (r .normal .pending) g h
+  pending-out (suc (suc zero)) g h = place-out 8 (r .peak .pending) g h
+  pending-out (suc (suc (suc k))) g h = refl
+
+  open-out : (k c : ℕ) → 16 ≤ c → hoursOf r k .outstanding c ≡ 0
+  unfolding hoursOf classAt noStocks
+  open-out zero c h = place-out 16 (r .offpeak .outstanding) c h
+  open-out (suc zero) c h = place-out 16 (r .normal .outstanding) c h
+  open-out (suc (suc zero)) c h = place-out 16 (r .peak .outstanding) c h
+  open-out (suc (suc (suc k))) c h = refl
+
+  three-out : (k : ℕ) → 3 ≤ k → hoursOf r k ≡ noStocks
+  unfolding hoursOf
+  three-out zero h = absurd (omega arith)
+  three-out (suc zero) h = absurd (omega arith)
+  three-out (suc (suc zero)) h = absurd (omega arith)
+  three-out (suc (suc (suc k))) h = refl
+
 -- whatever a record holds, its figures are 0 beyond its places
 pub figures-cut : (r : Record) → Cut (figures r)
 unfolding figures planOf
@@ -58,6 +88,10 @@ figures-cut r =
       rank = cell-out 8 16 (r .schedule .rank);
       gen = generator-out (r .generators);
       con = consumer-out (r .consumers);
+      bank = bank-out r;
+      pending = pending-out r;
+      outstanding = open-out r;
+      three = three-out r;
     }
 
 module _ (gen : ℕ → GeneratorTerms) (z : (g : ℕ) → 8 ≤ g → gen g ≡ noInjection) where
@@ -96,6 +130,23 @@ module _ (con : ℕ → ConsumerTerms) (z : (c : ℕ) → 16 ≤ c → con c ≡
         outstanding = read16 (λ x. x .outstanding) refl i c;
       }
 
+module _ (b : Book) (cut : Cut b) where
+  class-stored : (k : ℕ) → classAt (storedStocks (b .hours k)) ≡ b .hours k
+  unfolding classAt storedStocks
+  class-stored k =
+      λ i. record {
+        bank = place-table 8 (b .hours k .bank) (cut .bank k) i;
+        pending = place-table 8 (b .hours k .pending) (cut .pending k) i;
+        outstanding = place-table 16 (b .hours k .outstanding) (cut .outstanding k) i;
+      }
+
+  hours-stored : (k : ℕ) → hoursOf (stored b) k ≡ b .hours k
+  unfolding hoursOf stored
+  hours-stored zero = class-stored 0
+  hours-stored (suc zero) = class-stored 1
+  hours-stored (suc (suc zero)) = class-stored 2
+  hours-stored (suc (suc (suc k))) = sym (cut .three (suc (suc (suc k))) (omega arith))
+
 pub figures-stored : (b : Book) → Cut b → figures (stored b) ≡ b
 unfolding figures stored planOf
 figures-stored b cut =
@@ -119,6 +170,9 @@ figures-stored b cut =
       monthblocks = b .monthblocks;
       gen = generators-stored (b .gen) (cut .gen) i;
       con = consumers-stored (b .con) (cut .con) i;
+      switch = b .switch;
+      closings = b .closings;
+      hours = λ k. hours-stored b cut k i;
     }
 
 -- the record that a refused opening returns is not sound

@@ -1,5 +1,5 @@
 -- The number at a place is the figure of the record that stands there; places as code reaches them. Assumes nothing.
-use Prim.Native.Nat.{ℕ, _+_, _*_, _<_}
+use Prim.Native.Nat.{ℕ, zero, suc, _+_, _*_, _<_}
 use mathlib.Core.Path.{_≡_, refl, sym, ap, _∙_}
 use mathlib.Core.List.{List}
 use native.Mathlib.Omega.{arith}
@@ -7,15 +7,17 @@ use lib.ListN.{getD, drop}
 use lib.Seq.{getD-take, getD-drop}
 use Rattle.lists.specs.Laws.TablesLaws.{getD-table}
 use Rattle.lists.specs.Pairs.{cell}
-use Rattle.lists.specs.Laws.PairsLaws.{cell-in}
+use Rattle.lists.specs.Laws.PairsLaws.{place-in, cell-in}
+use Rattle.record.specs.Book.{ClassStocks}
+use Rattle.record.specs.Stored.{classAt, hoursOf}
 use Rattle.record.specs.RecordWords.{recordOf}
 use Rattle.record.specs.declared.Agreed.{Agreed}
 use Rattle.record.specs.declared.Links.{Links}
 use Rattle.record.specs.declared.Schedule.{Schedule}
 use Rattle.record.specs.declared.Generators.{Generators}
 use Rattle.record.specs.declared.Consumers.{Consumers}
-use Rattle.record_layout.specs.Laws.Layout.{run, columnOf, terms-at, counts-at, agreed-at, links-at, schedule-at, generators-at, consumers-at}
-use Rattle.record_places.specs.Laws.Places.{generatorCountAt, consumerCountAt, rateAt, cycleAt, goneAt, unitBlocksAt, monthBlocksAt, agreedAt, linkAt, lossAt, kwAt, rankAt, injectedAt, meteredAt}
+use Rattle.record_layout.specs.Laws.Layout.{run, columnOf, terms-at, counts-at, agreed-at, links-at, schedule-at, generators-at, consumers-at, switch-at, stocksRead, offpeak-at, normal-at, peak-at}
+use Rattle.record_places.specs.Laws.Places.{generatorCountAt, consumerCountAt, rateAt, cycleAt, goneAt, unitBlocksAt, monthBlocksAt, agreedAt, linkAt, lossAt, kwAt, rankAt, injectedAt, meteredAt, switchMonthAt, closingsAt, offPeakAt}
 
 module _ (ws : List ℕ) where
   run-at : (n at i : ℕ) → i < n → getD (run ws n at) i 0 ≡ getD ws (at + i) 0
@@ -122,3 +124,29 @@ module _ (ws : List ℕ) where
 
   pub consumer-outstanding-place : (c : ℕ) → c < 16 → getD (recordOf ws .consumers .outstanding) c 0 ≡ getD ws (meteredAt + c + 80) 0
   consumer-outstanding-place c h = ap (λ (x : Consumers). getD (x .outstanding) c 0) (consumers-at ws) ∙ run-behind 16 meteredAt 80 c h
+
+  -- ---- the switch and the closings done
+
+  pub switch-places : recordOf ws .switch ≡ record { month = getD ws switchMonthAt 0; closings = getD ws closingsAt 0 }
+  switch-places = switch-at ws ∙ (λ i. record { month = run-at 2 switchMonthAt 0 (omega arith) i; closings = run-at 2 switchMonthAt 1 (omega arith) i })
+
+  -- ---- the classes of hours, 32 places apart
+
+  class-at : (k : ℕ) → k < 3 → hoursOf (recordOf ws) k ≡ classAt (stocksRead ws (offPeakAt + k * 32))
+  unfolding hoursOf
+  class-at zero h = ap classAt (offpeak-at ws)
+  class-at (suc zero) h = ap classAt (normal-at ws)
+  class-at (suc (suc zero)) h = ap classAt (peak-at ws)
+  class-at (suc (suc (suc k))) h = absurd (omega arith)
+
+  pub class-bank-place : (k g : ℕ) → k < 3 → g < 8 → hoursOf (recordOf ws) k .bank g ≡ getD ws (offPeakAt + k * 32 + g) 0
+  unfolding classAt
+  class-bank-place k g l h = ap (λ (t : ClassStocks). t .bank g) (class-at k l) ∙ place-in 8 _ g h ∙ run-at 8 (offPeakAt + k * 32) g h
+
+  pub class-pending-place : (k g : ℕ) → k < 3 → g < 8 → hoursOf (recordOf ws) k .pending g ≡ getD ws (offPeakAt + k * 32 + g + 8) 0
+  unfolding classAt
+  class-pending-place k g l h = ap (λ (t : ClassStocks). t .pending g) (class-at k l) ∙ place-in 8 _ g h ∙ run-behind 8 (offPeakAt + k * 32) 8 g h
+
+  pub class-open-place : (k c : ℕ) → k < 3 → c < 16 → hoursOf (recordOf ws) k .outstanding c ≡ getD ws (offPeakAt + k * 32 + c + 16) 0
+  unfolding classAt
+  class-open-place k c l h = ap (λ (t : ClassStocks). t .outstanding c) (class-at k l) ∙ place-in 16 _ c h ∙ run-behind 16 (offPeakAt + k * 32) 16 c h

@@ -19,9 +19,11 @@ use Rattle.record.specs.declared.Agreed.{Agreed}
 use Rattle.record.specs.declared.Links.{Links}
 use Rattle.record.specs.declared.Schedule.{Schedule}
 use Rattle.record.specs.declared.Generators.{Generators}
+use Rattle.record.specs.declared.Switch.{Switch}
+use Rattle.record.specs.declared.Stocks.{Stocks}
 use Rattle.record.specs.declared.Consumers.{Consumers}
 use Rattle.record_places.specs.RecordSize.{recordNumbers, recordBytes}
-use Rattle.record_places.specs.Laws.Places.{generatorCountAt, goneAt, agreedAt, linkAt, lossAt, kwAt, rankAt, injectedAt, unaccountedAt, lostAt, generatorSetOffAt, inadvertentAt, chargeAt, generatorDrawnAt, lapsedAt, bankAt, pendingAt, meteredAt, consumerSetOffAt, shortfallAt, consumerDrawnAt, suppliedAt, outstandingAt}
+use Rattle.record_places.specs.Laws.Places.{generatorCountAt, goneAt, agreedAt, linkAt, lossAt, kwAt, rankAt, injectedAt, unaccountedAt, lostAt, generatorSetOffAt, inadvertentAt, chargeAt, generatorDrawnAt, lapsedAt, bankAt, pendingAt, meteredAt, consumerSetOffAt, shortfallAt, consumerDrawnAt, suppliedAt, outstandingAt, switchMonthAt, offPeakAt, normalAt, peakAt}
 
 -- n numbers from place `at` on
 abbrev pub run : List ℕ → ℕ → ℕ → List ℕ
@@ -122,6 +124,30 @@ module _ (ws : List ℕ) where
         outstanding = cut-at runLengths ws 21 i;
       }
 
+  in-pair : (i : ℕ) → i < 2 → getD (getD (cut runLengths ws) 22 []) i 0 ≡ getD (run ws 2 switchMonthAt) i 0
+  unfolding runLengths total
+  in-pair i h = ap (λ (l : List ℕ). getD l i 0) (cut-at runLengths ws 22)
+
+  pub switch-at : recordOf ws .switch ≡ record { month = getD (run ws 2 switchMonthAt) 0 0; closings = getD (run ws 2 switchMonthAt) 1 0 }
+  unfolding recordOf fromRuns
+  switch-at = λ i. record { month = in-pair 0 (omega arith) i; closings = in-pair 1 (omega arith) i }
+
+  -- bank, pending and open of a class, which start at place `at`
+  abbrev pub stocksRead : ℕ → Stocks
+  stocksRead at = record { bank = run ws 8 at; pending = run ws 8 (at + 8); outstanding = run ws 16 (at + 16) }
+
+  pub offpeak-at : recordOf ws .offpeak ≡ stocksRead offPeakAt
+  unfolding recordOf fromRuns runLengths total
+  offpeak-at = λ i. record { bank = cut-at runLengths ws 23 i; pending = cut-at runLengths ws 24 i; outstanding = cut-at runLengths ws 25 i }
+
+  pub normal-at : recordOf ws .normal ≡ stocksRead normalAt
+  unfolding recordOf fromRuns runLengths total
+  normal-at = λ i. record { bank = cut-at runLengths ws 26 i; pending = cut-at runLengths ws 27 i; outstanding = cut-at runLengths ws 28 i }
+
+  pub peak-at : recordOf ws .peak ≡ stocksRead peakAt
+  unfolding recordOf fromRuns runLengths total
+  peak-at = λ i. record { bank = cut-at runLengths ws 29 i; pending = cut-at runLengths ws 30 i; outstanding = cut-at runLengths ws 31 i }
+
 -- the numbers of each part, in the record's order
 abbrev pub termsRun : Terms → List ℕ
 termsRun t = t .generators ∷ t .consumers ∷ t .rate ∷ t .cycle ∷ []
@@ -145,9 +171,16 @@ generatorsRun t =
 abbrev pub consumersRun : Consumers → List ℕ
 consumersRun t = joined (t .metered ∷ t .setoff ∷ t .shortfall ∷ t .drawn ∷ t .supplied ∷ t .outstanding ∷ [])
 
+abbrev pub switchRun : Switch → List ℕ
+switchRun t = t .month ∷ t .closings ∷ []
+
+abbrev pub stocksRun : Stocks → List ℕ
+stocksRun t = joined (t .bank ∷ t .pending ∷ t .outstanding ∷ [])
+
 pub words-parts : (r : Record) → words r ≡
     termsRun (r .terms) ++ (countsRun (r .counts) ++ (agreedRun (r .agreed) ++ (linksRun (r .links) ++
-    (scheduleRun (r .schedule) ++ (generatorsRun (r .generators) ++ consumersRun (r .consumers))))))
+    (scheduleRun (r .schedule) ++ (generatorsRun (r .generators) ++ (consumersRun (r .consumers) ++
+    (switchRun (r .switch) ++ (stocksRun (r .offpeak) ++ (stocksRun (r .normal) ++ stocksRun (r .peak))))))))))
 unfolding words runs joined
 words-parts r = simp append-assoc
 

@@ -1,7 +1,7 @@
 -- The record's bytes are read back as the record, and the record's numbers as its bytes. Assumes nothing.
 use Prim.Native.Nat.{ℕ, zero, suc, _+_, _*_, _/_, _%_, _^_, _≤_, _<_}
 use mathlib.Core.Path.{_≡_, refl, sym, ap, _∙_}
-use mathlib.Core.List.{List, [], _∷_}
+use mathlib.Core.List.{List, [], _∷_, _++_}
 use native.Mathlib.Omega.{arith}
 use lib.ListN.{length, getD, take, drop, length-drop, take-append-drop}
 use lib.Seq.{length-take-le}
@@ -13,9 +13,9 @@ use Rattle.codec.specs.Bytes.{encode}
 use Rattle.codec.specs.Laws.BytesLaws.{Below, below-append, length-encode, length-decode, decode-encode, encode-decode}
 use Rattle.record.specs.Book.{Book, splitOfInjected, splitOfMetered}
 use Rattle.record.specs.Laws.Shape.{Shape, record-kept}
-use Rattle.record.specs.Stored.{stored, storedGenerators, storedConsumers, figures}
+use Rattle.record.specs.Stored.{stored, storedGenerators, storedConsumers, storedStocks, figures}
 use Rattle.energy.specs.Limits.{mostFigure}
-use Rattle.record.specs.Laws.SoundLaws.{Facts, injected-most, metered-most, kw-most}
+use Rattle.record.specs.Laws.SoundLaws.{Facts, injected-most, metered-most, kw-most, class-bank, class-pending, class-open}
 use Rattle.record.specs.RecordWords.{agreedOf, runs, runLengths, total, words, cut, fromRuns, recordOf}
 use Rattle.record.specs.declared.Record.{Record}
 use Rattle.record.specs.declared.GeneratorTerms.{GeneratorTerms}
@@ -43,6 +43,10 @@ head-back : (h : List ℕ) → length h ≡ 7 → getD h 0 0 ∷ getD h 1 0 ∷ 
 unfolding table
 head-back h e = sym (is-table 0 7 (λ i. getD h i 0) h e (λ i l. refl))
 
+pair-back : (h : List ℕ) → length h ≡ 2 → getD h 0 0 ∷ getD h 1 0 ∷ [] ≡ h
+unfolding table
+pair-back h e = sym (is-table 0 2 (λ i. getD h i 0) h e (λ i l. refl))
+
 module _ (a : List ℕ) (e : length a ≡ 24) where
   column : ℕ → List ℕ
   column j = table 8 (λ g. cell 8 3 a g j)
@@ -68,7 +72,8 @@ module _ (ws : List ℕ) (e : length ws ≡ recordNumbers) where
   unfolding runs recordOf fromRuns cut runLengths total column
   runs-back =
       let size = run-length runLengths ws e in
-      λ i. head-back (take 7 ws) (size 0 (omega arith)) i ∷ agreed-back (take 24 (drop 7 ws)) (size 1 (omega arith)) i ∷ drop 2 (cut runLengths ws)
+      λ i. head-back (take 7 ws) (size 0 (omega arith)) i ∷ agreed-back (take 24 (drop 7 ws)) (size 1 (omega arith)) i ∷
+      (take 20 (drop 2 (cut runLengths ws)) ++ (pair-back (getD (cut runLengths ws) 22 []) (size 22 (omega arith)) i ∷ drop 23 (cut runLengths ws)))
 
   pub words-of-record : words (recordOf ws) ≡ ws
   unfolding words
@@ -126,8 +131,22 @@ module _ (b : Book) (f : Facts b) where
   head-low (suc (suc (suc (suc (suc (suc zero)))))) = omega (arith, f .counts .month-high)
   head-low (suc (suc (suc (suc (suc (suc (suc i))))))) = omega arith
 
+  switch-low : Below (mostFigure + 1) (b .switch ∷ b .closings ∷ [])
+  switch-low zero = omega (arith, f .switch .switch-high)
+  switch-low (suc zero) = omega (arith, f .switch .closings-blocks, f .counts .blocks-high)
+  switch-low (suc (suc i)) = omega arith
+
+  bank-low : (k : ℕ) → Below (mostFigure + 1) (table 8 (b .hours k .bank))
+  bank-low k = below-table 8 (b .hours k .bank) (λ g. omega (arith, class-bank b f k g, f .gen g .equation, injected-most b f g))
+
+  pending-low : (k : ℕ) → Below (mostFigure + 1) (table 8 (b .hours k .pending))
+  pending-low k = below-table 8 (b .hours k .pending) (λ g. omega (arith, class-pending b f k g, f .gen g .equation, injected-most b f g))
+
+  open-low : (k : ℕ) → Below (mostFigure + 1) (table 16 (b .hours k .outstanding))
+  open-low k = below-table 16 (b .hours k .outstanding) (λ c. omega (arith, class-open b f k c, f .con c .equation, metered-most b f c))
+
   runs-low : AllBelow (mostFigure + 1) (runs (stored b))
-  unfolding runs stored storedGenerators storedConsumers
+  unfolding runs stored storedGenerators storedConsumers storedStocks
   runs-low =
       also head-low
       (also (below-pairs 8 3 (agreedOf (stored b .agreed)) agreed-low)
@@ -150,7 +169,11 @@ module _ (b : Book) (f : Facts b) where
       (also (consumer-low (λ x. x .shortfall) (λ x. omega arith))
       (also (consumer-low (λ x. x .drawn) (λ x. omega arith))
       (also (consumer-low (λ x. x .supplied) (λ x. omega arith))
-      (also (consumer-low (λ x. x .outstanding) (λ x. omega arith)) none)))))))))))))))))))))
+      (also (consumer-low (λ x. x .outstanding) (λ x. omega arith))
+      (also switch-low
+      (also (bank-low 0) (also (pending-low 0) (also (open-low 0)
+      (also (bank-low 1) (also (pending-low 1) (also (open-low 1)
+      (also (bank-low 2) (also (pending-low 2) (also (open-low 2) none)))))))))))))))))))))))))))))))
 
   pub words-low : (i : ℕ) → getD (words (stored b)) i 0 ≤ mostFigure
   unfolding words

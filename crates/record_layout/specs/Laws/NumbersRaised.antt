@@ -1,15 +1,13 @@
 -- Numbers of a list raised where they stand, and what that makes of its runs. Assumes nothing.
 use Prim.Native.Nat.{ℕ, zero, suc, _+_, _-_, _≤_, _<_}
 use mathlib.Core.Path.{_≡_, refl, sym, ap, _∙_}
-use mathlib.Core.Bool.{Bool, true, false}
 use mathlib.Core.List.{List, [], _∷_}
 use mathlib.Core.Logic.{⊎-elim}
 use native.Mathlib.Numerals.{add-one}
-use native.Mathlib.Nat.{zero-add, add-zero, add-assoc, eq-or-lt-of-le, eq-zero-or-pos}
+use native.Mathlib.Nat.{zero-add, add-assoc, eq-or-lt-of-le, eq-zero-or-pos}
 use native.Mathlib.Omega.{arith}
 use lib.ListN.{length, getD, set, take, drop, length-set}
-use lib.Seq.{getD-set-same, getD-set-other, set-getD, set-set, set-comm, take-set-le, take-set-lt, drop-set-lt, drop-set-add, getD-take, getD-drop}
-use Rattle.lists.specs.Choice.{if_then_else_}
+use lib.Seq.{getD-set-same, getD-set-other, set-getD, set-set, take-set-le, take-set-lt, drop-set-lt, drop-set-add, getD-take, getD-drop}
 use Rattle.lists.specs.Tables.{table}
 use Rattle.lists.specs.Laws.TablesLaws.{is-table}
 use Rattle.lists.specs.Pairs.{place}
@@ -57,15 +55,6 @@ module _ (at f : ℕ → ℕ) (ws : List ℕ) where
       (λ (h : i < n). getD-set-other (raised at n f ws) (at n) (at i) _ 0 (apart i n h) ∙ raised-at apart n i h b)
       (eq-or-lt-of-le (omega arith))
 
--- a number set elsewhere is set before or after
-raised-set : (at f : ℕ → ℕ) (ws : List ℕ) (n k v : ℕ) → ((i : ℕ) → i < n → k ≡ at i → ⊥) → raised at n f (set ws k v) ≡ set (raised at n f ws) k v
-unfolding raised
-raised-set at f ws zero k v h = refl
-raised-set at f ws (suc n) k v h =
-    let xs : List ℕ = raised at n f ws in
-    let apart : k ≡ at n → ⊥ = h n (omega arith) in
-    rw (raised-set at f ws n k v (λ i l. h i (omega arith)), getD-set-other xs k (at n) v 0 (λ e. apart (sym e))) (set-comm xs k (at n) v _ apart)
-
 -- a whole list raised, nothing being added from place n on
 pub raised-table : (k n : ℕ) (f g : ℕ → ℕ) (xs : List ℕ) → length xs ≡ k → n ≤ k → ((i : ℕ) → i < n → f i ≡ g i) → ((i : ℕ) → n ≤ i → g i ≡ 0) →
     raised (λ i. i) n f xs ≡ table k (λ i. place k xs i + g i)
@@ -77,35 +66,6 @@ raised-table k n f g xs e b same none = is-table 0 k (λ i. place k xs i + g i) 
         (λ (z : n - i ≡ 0). omega (arith, raised-other (λ i. i) f xs n i (λ j h p. omega arith), place-in k xs i l, none i (omega arith)))
         (λ (p : 0 < n - i). let h : i < n = omega arith in omega (arith, raised-at (λ i. i) f xs (λ i j h p. omega arith) n i h (omega arith), place-in k xs i l, same i h))
         (eq-zero-or-pos (n - i))
-
--- ---- places of two lists, chosen for each number
-
-pub raised-either : (t : ℕ → Bool) (a b : ℕ) (f : ℕ → ℕ) (ws : List ℕ) (n : ℕ) → a + n ≤ b →
-    raised (λ i. if t i then a + i else b + i) n f ws ≡ raised (from b) n (λ i. if t i then 0 else f i) (raised (from a) n (λ i. if t i then f i else 0) ws)
-unfolding raised
-raised-either t a b f ws zero h = refl
-raised-either t a b f ws (suc n) h = rw (raised-either t a b f ws n (omega arith)) (go (t n))
-  where
-    unraised : (zs : List ℕ) (k : ℕ) → set zs k (getD zs k 0 + 0) ≡ zs
-    unraised zs k = rw add-zero (set-getD zs k 0)
-
-    later : ℕ → ℕ
-    later i = if t i then 0 else f i
-
-    xs : List ℕ
-    xs = raised (from a) n (λ i. if t i then f i else 0) ws
-
-    ys : List ℕ → List ℕ
-    ys zs = raised (from b) n later zs
-
-    apart : (i : ℕ) → i < n → a + n ≡ b + i → ⊥
-    apart i l e = omega arith
-
-    go : (x : Bool) →
-        set (ys xs) (if x then a + n else b + n) (getD (ys xs) (if x then a + n else b + n) 0 + f n) ≡
-        (let zs = ys (set xs (a + n) (getD xs (a + n) 0 + (if x then f n else 0))) in set zs (b + n) (getD zs (b + n) 0 + (if x then 0 else f n)))
-    go true = rw (raised-other (from b) later xs n (a + n) apart) (sym (unraised _ (b + n) ∙ raised-set (from b) later xs n (a + n) _ apart))
-    go false = rw (unraised xs (a + n))
 
 -- ---- the runs of a list that is cut
 

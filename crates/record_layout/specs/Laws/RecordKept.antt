@@ -19,7 +19,7 @@ module _ (ws : List ℕ) (e : length ws ≡ recordNumbers) where
   pub record-shape : Shape (recordOf ws)
   unfolding recordOf fromRuns runLengths cut total
   record-shape =
-      let size : (j : ℕ) → j < 22 → length (getD (cut runLengths ws) j []) ≡ getD runLengths j 0 = run-length runLengths ws e in
+      let size : (j : ℕ) → j < 32 → length (getD (cut runLengths ws) j []) ≡ getD runLengths j 0 = run-length runLengths ws e in
       record {
         agreed = record { kind = length-table 8 _; installed = length-table 8 _; contracted = length-table 8 _ };
         links = record { link = size 2 (omega arith); loss = size 3 (omega arith) };
@@ -46,6 +46,9 @@ module _ (ws : List ℕ) (e : length ws ≡ recordNumbers) where
               supplied = size 20 (omega arith);
               outstanding = size 21 (omega arith);
             };
+        offpeak = record { bank = size 23 (omega arith); pending = size 24 (omega arith); outstanding = size 25 (omega arith) };
+        normal = record { bank = size 26 (omega arith); pending = size 27 (omega arith); outstanding = size 28 (omega arith) };
+        peak = record { bank = size 29 (omega arith); pending = size 30 (omega arith); outstanding = size 31 (omega arith) };
       }
 
   pub read-kept : stored (figures (recordOf ws)) ≡ recordOf ws

@@ -91,6 +91,19 @@ suppliedAt = 687
 abbrev pub outstandingAt : ℕ
 outstandingAt = 703
 
--- where the totals by consumer end
-abbrev pub totalsEnd : ℕ
-totalsEnd = 719
+-- The switch month and the closings done, a number each.
+abbrev pub switchMonthAt : ℕ
+switchMonthAt = 719
+
+abbrev pub closingsAt : ℕ
+closingsAt = 720
+
+-- Where the bank of each class of hours starts; its pending follows 8 places on, its open 16.
+abbrev pub offPeakAt : ℕ
+offPeakAt = 721
+
+abbrev pub normalAt : ℕ
+normalAt = 753
+
+abbrev pub peakAt : ℕ
+peakAt = 785

@@ -16,8 +16,9 @@ use Rattle.lists.specs.Pairs.{place, cell}
 use Rattle.lists.specs.Laws.PairsLaws.{cell-in}
 use Rattle.energy.specs.Limits.{mostGenerators, mostConsumers, mostRate, mostCycle, mostUnitBlocks, mostMonthBlocks}
 use Rattle.record.specs.Plan.{lowerCapacity, scheduled}
+use Rattle.record.specs.Book.{Book, byHours}
 use Rattle.record.specs.Stored.{generatorAt, consumerAt, planOf, figures}
-use Rattle.record.specs.Sound.{countsSound, agreedSound, pairSound, generatorSound, consumerSound, sound}
+use Rattle.record.specs.Sound.{countsSound, agreedSound, pairSound, generatorSound, consumerSound, switchSound, generatorHours, consumerHours, sound}
 use Rattle.record.specs.declared.Record.{Record}
 use Rattle.record.specs.declared.Terms.{Terms}
 use Rattle.record.specs.declared.Counts.{Counts}
@@ -45,6 +46,11 @@ generatorTest t G blocks g = generatorSound blocks (ltb g G) (generatorAt t g)
 
 unfoldable pub consumerTest : Consumers → ℕ → ℕ → ℕ → Bool
 consumerTest t C blocks c = consumerSound blocks (ltb c C) (consumerAt t c)
+
+-- the switch and the classes of hours
+unfoldable pub hoursTest : Book → Bool
+hoursTest b =
+    switchSound (byHours b) (b .switch) (b .closings) (b .gone) (b .unitblocks) (b .monthblocks) && all 8 (generatorHours b) && all 16 (consumerHours b)
 
 -- within the lower of two is within both
 pub within-both : (t i n : ℕ) → leb t i && leb t n ≡ leb t (lowerCapacity i n)
@@ -100,7 +106,7 @@ unfoldable pub pairRead : List ℕ → List ℕ → List ℕ → List ℕ → Bo
 pairRead link loss kw rank inside k = pairSound inside (getD link k 0) (getD loss k 0) (getD kw k 0) (getD rank k 0)
 
 -- a number made of all by `|` is 0 where each of them is
-or-zero : (a b : ℕ) → eqb (bitOr a b) 0 ≡ eqb a 0 && eqb b 0
+pub or-zero : (a b : ℕ) → eqb (bitOr a b) 0 ≡ eqb a 0 && eqb b 0
 or-zero zero b = rw (or-zero-l b)
 or-zero (suc a) b = rw (ne-eqb (suc a) 0 (λ e. absurd (omega (arith, e)))) (ne-eqb (bitOr (suc a) b) 0 (λ e. absurd (omega (arith, e, or-add-and (suc a) b, and-le-r (suc a) b))))
 
@@ -186,15 +192,23 @@ counts-fit t n e =
     e in
     record { generators-fit = within-high _ _ _ (w 0); consumers-fit = within-high _ _ _ (w 1); blocks-fit = leb-true _ _ (w 5) }
 
-pub sound-by-parts : (r : Record) {a b c d : Bool} →
+last-joined : (x a b c : Bool) → x && (a && b && c) ≡ x && a && b && c
+last-joined true a b c = refl
+last-joined false a b c = refl
+
+pub sound-by-parts : (r : Record) {a b c d h : Bool} →
     countsTest (r .terms) (r .counts) ≡ true →
     a ≡ all 8 (agreedTest (r .agreed) (r .schedule .kw) (r .terms .generators) (r .terms .consumers)) →
     b ≡ all 8 (λ g. all 16 (pairTest (r .links .link) (r .links .loss) (r .schedule .kw) (r .schedule .rank) (r .terms .generators) (r .terms .consumers) g)) →
     c ≡ all 8 (generatorTest (r .generators) (r .terms .generators) (r .counts .unitblocks)) →
     d ≡ all 16 (consumerTest (r .consumers) (r .terms .consumers) (r .counts .unitblocks)) →
-    (a && b && c && d) ≡ sound (figures r)
-unfolding sound figures planOf scheduled countsTest agreedTest pairTest generatorTest consumerTest
-sound-by-parts r e p q s t = rw (e, p, q, s, t)
+    h ≡ hoursTest (figures r) →
+    (a && b && c && d && h) ≡ sound (figures r)
+unfolding sound figures planOf scheduled countsTest agreedTest pairTest generatorTest consumerTest hoursTest
+sound-by-parts r {a} {b} {c} {d} {h} e p q s t u =
+    let f = figures r in
+    let switch = switchSound (byHours f) (f .switch) (f .closings) (f .gone) (f .unitblocks) (f .monthblocks) in
+    rw u (last-joined (a && b && c && d) switch (all 8 (generatorHours f)) (all 16 (consumerHours f)) ∙ rw (e, p, q, s, t))
 
 pub unsound-counts : (r : Record) → countsTest (r .terms) (r .counts) ≡ false → false ≡ sound (figures r)
 unfolding sound figures planOf countsTest

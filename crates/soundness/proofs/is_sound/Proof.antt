@@ -28,14 +28,20 @@ generators-sound-requires c κs = let t = c .before .before in (t .before .befor
 consumers-sound-requires : tie.Need-consumers-sound-requires
 consumers-sound-requires c κs = let t = c .before .before .before in (t .before .before .before .pre .whole, fit t .blocks-fit)
 
+hours-sound-requires : tie.Need-hours-sound-requires
+hours-sound-requires c κs = let p = c .before .before .before .before .before .before .before .pre in (p .whole, p .counts-are)
+
 returns : tie.Need-returns
 returns c =
-    let t = c .before .before .before .before in
+    let consumers = c .before in
+    let agreed = consumers .before .before .before in
+    let t = agreed .before in
     sound-held _ (t .before .before .before .pre) (passed t)
-    (c .before .before .before .agreed-all-sound .ensures)
-    (c .before .before .pairs-sound .ensures)
-    (c .before .generators-sound .ensures)
-    (c .consumers-sound .ensures)
+    (agreed .agreed-all-sound .ensures)
+    (consumers .before .before .pairs-sound .ensures)
+    (consumers .before .generators-sound .ensures)
+    (consumers .consumers-sound .ensures)
+    (c .hours-sound .ensures)
 
 returns-2 : tie.Need-returns-2
 returns-2 c = unsound-held _ (c .before .before .before .pre) (sym (c .before .counts-sound .ensures) ∙ c .if1 .left)
@@ -49,5 +55,6 @@ is-sound-spec =
     pairs-sound-requires
     generators-sound-requires
     consumers-sound-requires
+    hours-sound-requires
     returns
     returns-2)

@@ -13,7 +13,7 @@ use Rattle.lists.specs.Tests.{all}
 use Rattle.lists.specs.Laws.TestsLaws.{and-left, and-right, all-at, all-same}
 use Rattle.sound_items.specs.Laws.Capped.{RowTotal}
 use Rattle.record.specs.Sound.{limit, agreedSound, pairSound, sound}
-use Rattle.sound_items.specs.Laws.SoundTests.{countsTest, counts-fit, agreedTest, agreed-here, pairRead, pairTest, generatorRead, generatorTest, consumerRead, consumerTest, sound-by-parts, unsound-counts}
+use Rattle.sound_items.specs.Laws.SoundTests.{countsTest, counts-fit, agreedTest, agreed-here, pairRead, pairTest, generatorRead, generatorTest, consumerRead, consumerTest, hoursTest, sound-by-parts, unsound-counts}
 use Rattle.record.specs.Stored.{figures}
 use Rattle.record.specs.declared.Record.{Record}
 use Rattle.record.specs.declared.Terms.{Terms}
@@ -41,10 +41,26 @@ parts-read : {s : List ℕ} {terms : Terms} {counts : Counts} → HeadRead s ter
       schedule = recordIn s .schedule;
       generators = recordIn s .generators;
       consumers = recordIn s .consumers;
+      switch = recordIn s .switch;
+      offpeak = recordIn s .offpeak;
+      normal = recordIn s .normal;
+      peak = recordIn s .peak;
     } ≡ recordIn s
 parts-read {s} h =
     let r = recordIn s in
-    λ i. record { terms = h .terms-are i; counts = h .counts-are i; agreed = r .agreed; links = r .links; schedule = r .schedule; generators = r .generators; consumers = r .consumers }
+    λ i. record {
+      terms = h .terms-are i;
+      counts = h .counts-are i;
+      agreed = r .agreed;
+      links = r .links;
+      schedule = r .schedule;
+      generators = r .generators;
+      consumers = r .consumers;
+      switch = r .switch;
+      offpeak = r .offpeak;
+      normal = r .normal;
+      peak = r .peak;
+    }
 
 -- a sound pair beyond the agreement has no kW
 none : (link loss k rank : ℕ) → pairSound false link loss k rank ≡ true → k ≡ 0
@@ -157,14 +173,18 @@ module _ (s : List ℕ) where
       go true p = ap (λ (x : Bool). x && true) (all-same 8 _ _ (λ g l. same g l (sym p) (ltb g G) refl))
 
   -- the tests of the parts make up the test of the record, its terms and counts being read apart
-  pub sound-held : {terms : Terms} {counts : Counts} {a b c d : Bool} → HeadRead s terms counts → countsTest terms counts ≡ true →
+  pub sound-held : {terms : Terms} {counts : Counts} {a b c d hours : Bool} → HeadRead s terms counts → countsTest terms counts ≡ true →
       a ≡ all 8 (λ g. agreedTest (recordIn s .agreed) (recordIn s .schedule .kw) (terms .generators) (limit (ltb g (terms .generators)) (terms .consumers)) g) →
       b ≡ all 8 (λ g. all 16 (pairTest (recordIn s .links .link) (recordIn s .links .loss) (recordIn s .schedule .kw) (recordIn s .schedule .rank) (terms .generators) (terms .consumers) g)) →
       c ≡ all 8 (generatorTest (recordIn s .generators) (terms .generators) (counts .unitblocks)) →
       d ≡ all 16 (consumerTest (recordIn s .consumers) (terms .consumers) (counts .unitblocks)) →
-      (a && b && c && d) ≡ sound (bookIn s)
-  sound-held {c = c} {d = d} e h p q x y =
-      ap (λ (t : Bool). t && c && d) (rows-within _ _ p q (counts-fit _ _ h .consumers-fit)) ∙ sound-by-parts _ h refl q x y ∙ ap (λ (r : Record). sound (figures r)) (parts-read e)
+      hours ≡ hoursTest (bookIn s) →
+      (a && b && c && d && hours) ≡ sound (bookIn s)
+  sound-held {c = c} {d = d} {hours = hours} e h p q x y z =
+      let whole = parts-read e in
+      ap (λ (t : Bool). t && c && d && hours) (rows-within _ _ p q (counts-fit _ _ h .consumers-fit)) ∙
+      sound-by-parts _ h refl q x y (z ∙ ap (λ (r : Record). hoursTest (figures r)) (sym whole)) ∙
+      ap (λ (r : Record). sound (figures r)) whole
 
   pub unsound-held : {terms : Terms} {counts : Counts} → HeadRead s terms counts → countsTest terms counts ≡ false →
       false ≡ sound (bookIn s)

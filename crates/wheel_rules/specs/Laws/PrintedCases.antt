@@ -12,12 +12,13 @@ use Rattle.order_rules.specs.Settle.{lower, settle, given, kept, unmet}
 use Rattle.record.specs.Plan.{deemed, scheduled, order, suppliers}
 use Rattle.block_rules.specs.Delivery.{countedOf, counted, unaccounted, partOf, lossOf, delivered, atExit}
 use Rattle.block_rules.specs.Settlement.{setOff, afterSetOff, underdrawn, shortfall, remainder, blockLists, blockOutput}
-use Rattle.record.specs.Book.{noInjection, noConsumption}
-use Rattle.agreement_rules.specs.Opening.{kindOf, installedOf, contractedOf, linkOf, rateOfLoss, sizesFit, termsFit, openingRefusal, opened}
+use Rattle.record.specs.Hours.{slotAfter, classOfSlot, hoursApply, beforeSwitch}
+use Rattle.record.specs.Book.{noInjection, noConsumption, noStocks}
+use Rattle.agreement_rules.specs.Opening.{kindOf, installedOf, contractedOf, linkOf, rateOfLoss, sizesFit, termsFit, firstGone, openingRefusal, opened}
 use Rattle.agreement_rules.specs.Schedule.{newKw, newRank, scheduleRefusal, afterSchedule, scheduleRule}
-use Rattle.block_rules.specs.Block.{generatorAfterBlock, consumerAfterBlock, afterBlock, blockLength, entryOf, exitOf, blockNumber, blockRefusal, blockRule}
+use Rattle.block_rules.specs.Block.{addsTo, generatorAfterBlock, consumerAfterBlock, classAfterBlock, afterBlock, blockLength, entryOf, exitOf, blockNumber, blockRefusal, blockRule}
 use Rattle.closing_rules.specs.Drawing.{stockAt, drawnAt, missingAt}
-use Rattle.closing_rules.specs.Closing.{takenUp, charge, credited, banks, drawn, supplied, cycleEnds, lapses, goneAfter, bankBeforeLapse, lapsed, bankAfter, generatorAfterClosing, consumerAfterClosing, afterClosing, closingLists, closingOutput, closingLength, closingNumber, closingRefusal, closingRule}
+use Rattle.closing_rules.specs.Closing.{cycleEnds, lapseDue, sourcesOf, undivided, stocksOf, takenUp, chargeOf, credited, serving, stock, want, drawnOf, bankLeft, suppliedOf, charge, drawn, supplied, bankBeforeLapse, lapses, goneAfter, lapsed, bankAfter, generatorAfterClosing, consumerAfterClosing, afterClosing, closingLists, closingOutput, closingLength, closingNumber, closingRefusal, closingRule}
 use Rattle.book.specs.BookCalls.{ruleOf, next, bookAfter, bookAnswers}
 use Rattle.book.specs.AgreementA.{agreementA}
 use Rattle.table_text.specs.TableText.{digits, decimal, separatorAfter, printed, name, names, namesLine}
@@ -39,5 +40,5 @@ pub record Cases : Type 0 where
   pub other-names : display (bytes "E1,R2\n") ≡ bytes "refused 14\n"
 
 pub cases : Cases
-unfolding bytes tableNumber blocks calls firstRefused callNumber lastBook refusedText equationText accountText display digits decimal separatorAfter printed name names namesLine inRange same startsWithNames laterLines isDigit numbers values allFit wellFormed readNumber agreementA sum table all some within place cell pairs joined firstOf portionUp lossOn part span insert sort only ahead inOrder lower settle given kept unmet deemed scheduled order suppliers countedOf counted unaccounted partOf lossOf delivered atExit setOff afterSetOff underdrawn shortfall remainder blockLists blockOutput noInjection noConsumption kindOf installedOf contractedOf linkOf rateOfLoss sizesFit termsFit openingRefusal opened newKw newRank scheduleRefusal afterSchedule scheduleRule generatorAfterBlock consumerAfterBlock afterBlock blockLength entryOf exitOf blockNumber blockRefusal blockRule takenUp charge credited stockAt drawnAt missingAt banks drawn supplied cycleEnds lapses goneAfter bankBeforeLapse lapsed bankAfter generatorAfterClosing consumerAfterClosing afterClosing closingLists closingOutput closingLength closingNumber closingRefusal closingRule ruleOf next bookAfter bookAnswers
+unfolding bytes tableNumber blocks calls firstRefused callNumber lastBook refusedText equationText accountText display digits decimal separatorAfter printed name names namesLine inRange same startsWithNames laterLines isDigit numbers values allFit wellFormed readNumber agreementA sum table all some within place cell pairs joined firstOf portionUp lossOn part span insert sort only ahead inOrder lower settle given kept unmet deemed scheduled order suppliers countedOf counted unaccounted partOf lossOf delivered atExit setOff afterSetOff underdrawn shortfall remainder blockLists blockOutput noInjection noConsumption kindOf installedOf contractedOf linkOf rateOfLoss sizesFit termsFit openingRefusal opened newKw newRank scheduleRefusal afterSchedule scheduleRule generatorAfterBlock consumerAfterBlock afterBlock blockLength entryOf exitOf blockNumber blockRefusal blockRule slotAfter classOfSlot hoursApply beforeSwitch noStocks addsTo classAfterBlock firstGone stockAt drawnAt missingAt cycleEnds lapseDue sourcesOf undivided stocksOf takenUp chargeOf credited serving stock want drawnOf bankLeft suppliedOf charge drawn supplied bankBeforeLapse lapses goneAfter lapsed bankAfter generatorAfterClosing consumerAfterClosing afterClosing closingLists closingOutput closingLength closingNumber closingRefusal closingRule ruleOf next bookAfter bookAnswers
 cases = record { example = refl; no-lines = refl; over-limit = refl; malformed = refl; other-names = refl }

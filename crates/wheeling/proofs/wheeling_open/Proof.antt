@@ -41,7 +41,7 @@ returns c =
     let called = c .before .before in
     let second = called .before .before .before .before .before in
     let first = second .before .before .before in
-    opening-on-bytes _ _ _ _ _ _ _ (first .before .before .if1 .taken) (first .read-input .ensures .alike) (second .read-input2 .ensures .alike) (called .opening-on .ensures)
+    opening-on-bytes _ _ _ _ _ _ _ _ (first .before .before .if1 .taken) (first .read-input .ensures .alike) (second .read-input2 .ensures .alike) (called .opening-on .ensures)
 
 returns-2 : tie.Need-returns-2
 returns-2 c = on-other (c .if1 .left)

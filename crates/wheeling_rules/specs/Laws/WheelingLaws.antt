@@ -134,19 +134,19 @@ module _ (r : Record) where
 abbrev Sized : Opening → Type 0
 Sized o = ((o .G ≤ 8) × (o .C ≤ 16)) × ((length (o .generators) ≡ 3 * o .G) × (length (o .pairs) ≡ 2 * (o .G * o .C)))
 
-module _ (G C rate cycle gone : ℕ) {xs xs′ ys ys′ bytes bytes′ : List ℕ} {n : ℕ} (x : Alike 25 xs xs′) (y : Alike 257 ys ys′) (h : OpenedOn (asked G C rate cycle gone xs ys) bytes n bytes′) where
-  sized-opened : Sized (asked G C rate cycle gone xs ys) ⊎ Sized (asked G C rate cycle gone xs′ ys′) → OpenedOn (asked G C rate cycle gone xs′ ys′) bytes n bytes′
+module _ (G C rate cycle gone switch : ℕ) {xs xs′ ys ys′ bytes bytes′ : List ℕ} {n : ℕ} (x : Alike 25 xs xs′) (y : Alike 257 ys ys′) (h : OpenedOn (asked G C rate cycle gone switch xs ys) bytes n bytes′) where
+  sized-opened : Sized (asked G C rate cycle gone switch xs ys) ⊎ Sized (asked G C rate cycle gone switch xs′ ys′) → OpenedOn (asked G C rate cycle gone switch xs′ ys′) bytes n bytes′
   sized-opened s =
-      let p : xs ≡ xs′ = few x (⊎-elim (λ (t : Sized (asked G C rate cycle gone xs ys)). inl (omega arith)) (λ t. inr (omega arith)) s) in
-      let most : G * C ≤ 128 = ⊎-elim (λ (t : Sized (asked G C rate cycle gone xs ys)). mul-le-mul (t .0 .0) (t .0 .1)) (λ t. mul-le-mul (t .0 .0) (t .0 .1)) s in
-      let q : ys ≡ ys′ = few y (⊎-elim (λ (t : Sized (asked G C rate cycle gone xs ys)). inl (omega arith)) (λ t. inr (omega arith)) s) in
-      subst (λ (v : Opening). OpenedOn v bytes n bytes′) (λ i. asked G C rate cycle gone (p i) (q i)) h
+      let p : xs ≡ xs′ = few x (⊎-elim (λ (t : Sized (asked G C rate cycle gone switch xs ys)). inl (omega arith)) (λ t. inr (omega arith)) s) in
+      let most : G * C ≤ 128 = ⊎-elim (λ (t : Sized (asked G C rate cycle gone switch xs ys)). mul-le-mul (t .0 .0) (t .0 .1)) (λ t. mul-le-mul (t .0 .0) (t .0 .1)) s in
+      let q : ys ≡ ys′ = few y (⊎-elim (λ (t : Sized (asked G C rate cycle gone switch xs ys)). inl (omega arith)) (λ t. inr (omega arith)) s) in
+      subst (λ (v : Opening). OpenedOn v bytes n bytes′) (λ i. asked G C rate cycle gone switch (p i) (q i)) h
 
-  opening-same : OpenedOn (asked G C rate cycle gone xs′ ys′) bytes n bytes′
-  opening-same = go (opening-sized (asked G C rate cycle gone xs ys)) (opening-sized (asked G C rate cycle gone xs′ ys′))
+  opening-same : OpenedOn (asked G C rate cycle gone switch xs′ ys′) bytes n bytes′
+  opening-same = go (opening-sized (asked G C rate cycle gone switch xs ys)) (opening-sized (asked G C rate cycle gone switch xs′ ys′))
     where
-      go : (openingRefusal (asked G C rate cycle gone xs ys) ≡ 2) ⊎ Sized (asked G C rate cycle gone xs ys) →
-          (openingRefusal (asked G C rate cycle gone xs′ ys′) ≡ 2) ⊎ Sized (asked G C rate cycle gone xs′ ys′) → OpenedOn (asked G C rate cycle gone xs′ ys′) bytes n bytes′
+      go : (openingRefusal (asked G C rate cycle gone switch xs ys) ≡ 2) ⊎ Sized (asked G C rate cycle gone switch xs ys) →
+          (openingRefusal (asked G C rate cycle gone switch xs′ ys′) ≡ 2) ⊎ Sized (asked G C rate cycle gone switch xs′ ys′) → OpenedOn (asked G C rate cycle gone switch xs′ ys′) bytes n bytes′
       go (inl p) (inl q) = record { number-is = h .number-is ∙ p ∙ sym q; record-is = h .record-is ∙ after-same bytes (λ z. absurd (omega (arith, h .number-is))) }
       go (inr s) q = sized-opened (inl s)
       go (inl p) (inr s) = sized-opened (inr s)
@@ -186,10 +186,10 @@ module _ {refusal : ℕ} {Whole : Type 0} {bytes lent : List ℕ} where
 
 -- ---- the four calls
 
-pub opening-on-bytes : (G C rate cycle gone : ℕ) (generators pairs : List ℕ) {xs ys bytes bytes′ : List ℕ} {n : ℕ} → length bytes ≡ recordBytes →
-    Alike 25 xs (numbersIn 4 generators) → Alike 257 ys (numbersIn 4 pairs) → OpenedOn (asked G C rate cycle gone xs ys) bytes n bytes′ →
-    ByteOpened (openingIn G C rate cycle gone generators pairs) bytes n bytes′
-opening-on-bytes G C rate cycle gone generators pairs l x y h = on-whole l (opening-same G C rate cycle gone x y h)
+pub opening-on-bytes : (G C rate cycle gone switch : ℕ) (generators pairs : List ℕ) {xs ys bytes bytes′ : List ℕ} {n : ℕ} → length bytes ≡ recordBytes →
+    Alike 25 xs (numbersIn 4 generators) → Alike 257 ys (numbersIn 4 pairs) → OpenedOn (asked G C rate cycle gone switch xs ys) bytes n bytes′ →
+    ByteOpened (openingIn G C rate cycle gone switch generators pairs) bytes n bytes′
+opening-on-bytes G C rate cycle gone switch generators pairs l x y h = on-whole l (opening-same G C rate cycle gone switch x y h)
 
 pub schedule-on-bytes : (kws ranks : List ℕ) {xs ys bytes bytes′ out : List ℕ} {n : ℕ} → length bytes ≡ recordBytes →
     Alike 129 xs (numbersIn 4 kws) → Alike 129 ys (numbersIn 4 ranks) → CalledOn (scheduleRule xs ys) bytes [] n bytes′ out → ByteScheduled bytes kws ranks n bytes′

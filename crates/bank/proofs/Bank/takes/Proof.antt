@@ -7,6 +7,7 @@ use Rattle.lists.specs.Laws.TestsLaws.{Testing, test-start, test-step, test-don
 use Rattle.lists.specs.Pairs.{place}
 use Rattle.lists.specs.Laws.PairsLaws.{place-in}
 use Rattle.energy.specs.Limits.{mostFigure, mostRate}
+use Rattle.bank.specs.Laws.CreditLaws.{withinLimits}
 use Rattle.bank.specs.Laws.BankSteps.{creditable}
 use borrow.Author.Needs.{needs}
 use Rattle.bank.proofs.Bank.takes.Statement.{statement}
@@ -48,7 +49,7 @@ loop-again c =
     test-step (l .inv) (search needs) (c .within .ensures ∙ rw (place-in 8 (c .before .before .before .before .args .t1 .balance) (l .g) (search needs), place-in 8 _ (l .g) (search needs)))
 
 returns : tie.Need-returns Inv-loop μ-loop
-unfolding creditable
+unfolding creditable withinLimits
 returns c = ap (λ (b : Bool). leb (c .before .before .args .rate) mostRate && b) (test-done (c .before .loop .inv) (search needs))
 
 pub takes-spec : {M : Type 1} → statement M

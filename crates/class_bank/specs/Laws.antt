@@ -1,0 +1,3 @@
+pub mod ClassBankSteps
+pub mod Serving
+pub mod ClassBankLaws

@@ -1,0 +1,4 @@
+pub mod ClassesRead
+pub mod ByGenerator
+pub mod HoursDrawing
+pub mod HoursMade

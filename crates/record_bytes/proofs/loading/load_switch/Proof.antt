@@ -1,0 +1,24 @@
+-- `record_bytes::loading::load_switch` meets its contract: each figure is read at its place. Assumes nothing.
+use borrow.Author.Needs.{needs}
+use Rattle.record_layout.specs.Laws.Layout.{switch-at}
+use Rattle.record_places.specs.RecordSize.{wordsIn}
+use Rattle.record_bytes.proofs.loading.load_switch.Statement.{statement}
+use Rattle.record_bytes.proofs.loading.load_switch.Tie as tie
+
+slice-aggregate-load-run : tie.Need-slice-aggregate-load-run
+slice-aggregate-load-run c = search needs
+
+load-run-requires : tie.Need-load-run-requires
+load-run-requires c κs = search needs
+
+array-read-t8 : tie.Need-array-read-t8
+array-read-t8 c = search needs
+
+array-read-t11 : tie.Need-array-read-t11
+array-read-t11 c = search needs
+
+returns : tie.Need-returns
+returns c = cc (switch-at (wordsIn (c .before .before .before .before .args .s .now)))
+
+pub load-switch-spec : {M : Type 1} → statement M
+load-switch-spec = tie.close (tie.spec slice-aggregate-load-run load-run-requires array-read-t8 array-read-t11 returns)
