@@ -1,5 +1,7 @@
 -- `record_bytes::loading::load_counts` meets its contract: each figure is read at its place. Assumes nothing.
+use mathlib.Core.Path.{sym, _∙_}
 use borrow.Author.Needs.{needs}
+use lib.ListN.{getD}
 use Rattle.record_layout.specs.Laws.Layout.{counts-at}
 use Rattle.record_places.specs.RecordSize.{wordsIn}
 use Rattle.record_bytes.proofs.loading.load_counts.Statement.{statement}
@@ -21,7 +23,9 @@ array-read-t14 : tie.Need-array-read-t14
 array-read-t14 c = search needs
 
 returns : tie.Need-returns
-returns c = cc (counts-at (wordsIn (c .before .before .before .before .args .s .now)))
+returns c =
+    let read = c .before .load-run .ensures in
+    (λ i. record { gone = getD (read i) 0 0; unitblocks = getD (read i) 1 0; monthblocks = getD (read i) 2 0 }) ∙ sym (counts-at (wordsIn (c .before .before .before .before .args .s .now)))
 
 pub load-counts-spec : {M : Type 1} → statement M
 load-counts-spec =

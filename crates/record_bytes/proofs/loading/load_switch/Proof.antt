@@ -1,5 +1,7 @@
 -- `record_bytes::loading::load_switch` meets its contract: each figure is read at its place. Assumes nothing.
+use mathlib.Core.Path.{sym, _∙_}
 use borrow.Author.Needs.{needs}
+use lib.ListN.{getD}
 use Rattle.record_layout.specs.Laws.Layout.{switch-at}
 use Rattle.record_places.specs.RecordSize.{wordsIn}
 use Rattle.record_bytes.proofs.loading.load_switch.Statement.{statement}
@@ -18,7 +20,9 @@ array-read-t11 : tie.Need-array-read-t11
 array-read-t11 c = search needs
 
 returns : tie.Need-returns
-returns c = cc (switch-at (wordsIn (c .before .before .before .before .args .s .now)))
+returns c =
+    let read = c .before .load-run .ensures in
+    (λ i. record { month = getD (read i) 0 0; closings = getD (read i) 1 0 }) ∙ sym (switch-at (wordsIn (c .before .before .before .before .args .s .now)))
 
 pub load-switch-spec : {M : Type 1} → statement M
 load-switch-spec = tie.close (tie.spec slice-aggregate-load-run load-run-requires array-read-t8 array-read-t11 returns)

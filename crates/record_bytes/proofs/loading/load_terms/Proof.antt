@@ -1,5 +1,7 @@
 -- `record_bytes::loading::load_terms` meets its contract: each figure is read at its place. Assumes nothing.
+use mathlib.Core.Path.{sym, _∙_}
 use borrow.Author.Needs.{needs}
+use lib.ListN.{getD}
 use Rattle.record_layout.specs.Laws.Layout.{terms-at}
 use Rattle.record_places.specs.RecordSize.{wordsIn}
 use Rattle.record_bytes.proofs.loading.load_terms.Statement.{statement}
@@ -24,7 +26,9 @@ array-read-t17 : tie.Need-array-read-t17
 array-read-t17 c = search needs
 
 returns : tie.Need-returns
-returns c = cc (terms-at (wordsIn (c .before .before .before .before .args .s .now)))
+returns c =
+    let read = c .before .load-run .ensures in
+    (λ i. record { generators = getD (read i) 0 0; consumers = getD (read i) 1 0; rate = getD (read i) 2 0; cycle = getD (read i) 3 0 }) ∙ sym (terms-at (wordsIn (c .before .before .before .before .args .s .now)))
 
 pub load-terms-spec : {M : Type 1} → statement M
 load-terms-spec =
