@@ -1,14 +1,14 @@
 #!/usr/bin/env python3
 """The test program: runs the library's five C calls and the second engine side by side.
 
-    compare.py LIBRARY.so [--lists N] [--months N] [--crossings N] [--days N] [--seed S]
-                          [--seconds T] [--unshrunk]
+    compare.py LIBRARY.so [--lists N] [--months N] [--crossings N] [--changeovers N] [--days N]
+                          [--seed S] [--seconds T] [--unshrunk]
     compare.py LIBRARY.so --replay FILE
 
 Compared byte for byte after each call: the number, the record and the output; also that the inputs
 and the guard bytes around all lent memory are as they were. A read past lent memory faults. In the
-random months, which are calls on an opened unit and nothing else, the sentences of demand 3 are
-also checked on the second engine's own figures at each closing.
+random months and changeovers, which are calls on an opened unit and nothing else, the sentences of
+demand 3 are also checked on the second engine's own figures at each closing.
 
 A difference ends the run with 1 after printing the seed and a shrunk list of calls, one line of
 JSON each, which --replay runs again. The library runs in processes of its own, so that a fault or
@@ -32,19 +32,21 @@ from second.demand_3 import broken_by_record, idle_bank  # noqa: E402
 from second.engine import ACCEPTED, Engine, inputs_from_bytes, record_from_bytes  # noqa: E402
 
 # Of each kind of random cases.
-DEFAULTS = {"list": 2_000, "month": 200, "crossing": 500, "day": 5_000}
+DEFAULTS = {"list": 2_000, "month": 200, "crossing": 500, "changeover": 40, "day": 5_000}
+# An opened unit is called and nobody else writes its record, as in demand 3.
+ONLY_CALLS = ("month", "changeover")
 UNIT_REFUSALS = (*range(1, 14), 19)
 DAY_NUMBERS = (ACCEPTED, 2, 17)
 NUMBERS = sorted({*UNIT_REFUSALS, *DAY_NUMBERS})
 # What must be seen, in the random cases where there are as many as in the gate, or more.
 EXPECTED = {"fixed case": NUMBERS, "list": UNIT_REFUSALS, "month": (), "crossing": (),
-            "day": DAY_NUMBERS}
+            "changeover": (ACCEPTED, 11, 13), "day": DAY_NUMBERS}
 
 
 class CallList(NamedTuple):
     """A list of calls that differs."""
     calls: list
-    only_calls: bool  # an opened unit is called and nobody else writes its record, as in demand 3
+    only_calls: bool  # as of the kinds in ONLY_CALLS
 
 
 def broken_sentences(before, outcome):
@@ -135,8 +137,8 @@ class Compare(SideBySide):
         for kind, count in DEFAULTS.items():
             parser.add_argument(f"--{kind}s", type=int, default=count, help=f"random {kind}s")
         parser.add_argument("--seconds", type=float,
-                            help="start no further list after a quarter of these seconds, no "
-                                 "further month after the next, and so on for crossings and days")
+                            help="start no further list after a fifth of these seconds, no "
+                                 "further month after the next, and so on for the other kinds")
 
     def load(self):
         return Library(self.path)
@@ -152,7 +154,7 @@ class Compare(SideBySide):
 
     def run_case(self, code, kind, case, place, seen):
         # A day is one call: the ways to lend memory go on from day to day.
-        return run_list(code, case, place, seen, kind == "month",
+        return run_list(code, case, place, seen, kind in ONLY_CALLS,
                         turn=place.case if kind == "day" else 0)
 
     def run_alone(self, code, case, place, turn):
@@ -161,7 +163,7 @@ class Compare(SideBySide):
     def failed_case(self, kind, place):
         name, calls = calls_made(kind, place.case, self.arguments.seed, place.call)
         return (f"{name}, call {len(calls)} of it ({calls[-1].name})",
-                CallList(calls, only_calls=kind == "month"))
+                CallList(calls, only_calls=kind in ONLY_CALLS))
 
     def up_to(self, case, call):
         return case._replace(calls=case.calls[:call + 1])

@@ -1,5 +1,5 @@
-"""Random lists of calls, random months, random crossings of a switch month and random days of two
-meters.
+"""Random lists of calls, random months, random crossings of a switch month, random changeovers,
+which cross it by calls alone, and random days of two meters.
 
 All are Python generators: they yield a call and are sent the second engine's outcome, which tells
 them what stands in the record. The same seed gives the same calls for every library, because only
@@ -406,10 +406,20 @@ def random_month(rng):
         record = (yield close_for(unit)).record
 
 
+def one_sided(rng, unit):
+    """A block that mostly banks only or is metered only, so that a closing has something to do."""
+    entry, exit = readings_for(rng, unit)
+    kind = rng.random()
+    if kind < 0.4:
+        exit = [0] * len(exit)
+    elif kind < 0.8:
+        entry = [0] * len(entry)
+    return block_call(entry, exit)
+
+
 def random_crossing(rng):
     """A unit over its switch month. A month is a few stretches of blocks; before each of them the
-    host moves the record to another block of the month, so that all classes are met soon. Most
-    blocks only bank or are only metered, so that a closing has something to settle."""
+    host moves the record to another block of the month, so that all classes are met soon."""
     opening = agreement(rng, busy=True)
     opening = opening._replace(numbers=(*opening.numbers[:5], rng.choice((1, 1, 2, 2, 3, 4))))
     record = (yield opening).record
@@ -420,13 +430,7 @@ def random_crossing(rng):
         for _ in range(rng.randint(1, 4)):
             record = (yield new_record_call(moved_in_month(rng, record))).record
             for _ in range(rng.randint(1, 4)):
-                entry, exit = readings_for(rng, record_from_bytes(record))
-                kind = rng.random()
-                if kind < 0.4:
-                    exit = [0] * len(exit)
-                elif kind < 0.8:
-                    entry = [0] * len(entry)
-                record = (yield block_call(entry, exit)).record
+                record = (yield one_sided(rng, record_from_bytes(record))).record
         if rng.random() < 0.3:
             record = (yield schedule_for(rng, record_from_bytes(record))).record
         if rng.random() < 0.1:
@@ -435,6 +439,37 @@ def random_crossing(rng):
                               close_for(damaged)))
             yield new_record_call(record)
         record = (yield close_for(record_from_bytes(record))).record
+
+
+def month_length(rng):
+    """1 to 3,360 blocks: the ends, some days, any number."""
+    most = Engine.MONTH_LIMIT
+    return rng.choice((1, rng.randint(1, Engine.SLOTS), rng.randint(1, 4 * Engine.SLOTS),
+                       max(1, magnitude(rng, most)), rng.randint(1, most), most - 1, most))
+
+
+def random_changeover(rng):
+    """A unit over its switch month by calls alone: months of 1 to 3,360 blocks, entered one by one.
+    Between them come schedules and blocks with a fault. A full month is offered a block more, a
+    closed one is closed again now and then."""
+    opening = agreement(rng, busy=True)
+    opening = opening._replace(numbers=(*opening.numbers[:5], rng.choice((1, 2, 2, 3))))
+    record = (yield opening).record
+    for _ in range(opening.numbers[5] + rng.randint(0, 1)):
+        record = (yield schedule_for(rng, record_from_bytes(record))).record
+        length = month_length(rng)
+        # To make each block anew would take most of the time.
+        unit = record_from_bytes(record)
+        blocks = [one_sided(rng, unit) for _ in range(min(length, 48))]
+        for _ in range(length):
+            yield rng.choice(blocks)
+            if rng.random() < 0.01:
+                yield rng.choice((schedule_for(rng, unit), with_fault(rng, rng.choice(blocks))))
+        if length == Engine.MONTH_LIMIT:
+            yield rng.choice(blocks)
+        record = (yield close_for(unit)).record
+        if rng.random() < 0.3:
+            yield close_for(unit)
 
 
 def tolerance_for(rng):
@@ -482,7 +517,7 @@ def source(seed, kind, index):
 
 
 KINDS = {"list": random_list, "month": random_month, "crossing": random_crossing,
-         "day": random_day}
+         "changeover": random_changeover, "day": random_day}
 
 
 def calls_of(seed, kind, index):
