@@ -56,7 +56,7 @@ fn give_both(has: &mut [u64; 24], g: usize, k: usize, want: u64) -> u64
 }
 
 // The suppliers that the first n keys hold give in their order to one who wants so much of class k, until nothing more is wanted.
-fn serve(keys: &[usize; 8], n: usize, k: usize, has: &mut [u64; 24], want: u64) -> u64
+pub fn serve(keys: &[usize; 8], n: usize, k: usize, has: &mut [u64; 24], want: u64) -> u64
     requires { ⌜ (n ≤ 8) × ((k < 3) × (length (now has) ≡ 24)) ⌝ }
     ensures { λ r. ⌜ Served k (turnsOf (now (keys .entry)) n) want (now (has .entry)) (now (has .exit)) r ⌝ }
 {
