@@ -181,21 +181,14 @@ FAULTS = {
         "charge on one class only":
             ("portion_up(Wh(pending[s]), rate)",
              "portion_up(Wh(lists::only_if(s % 3 == 2, pending[s])), rate)"),
-        "charge rounded once over the classes":
-            ("let due = *::portion_up(Wh(pending[s]), rate);",
-             "let mut lower: u64 = 0;\n            let mut k: usize = s - s % 3;\n"
-             "            while k < s {\n                lower += pending[k];\n"
-             "                k += 1;\n            }\n"
-             "            let before = *::portion_up(Wh(lower), rate);\n"
-             "            let after = energy::portion_up(Wh(lower + pending[s]), rate);\n"
-             "            let due = Wh(after.0 - before.0);"),
         "charges of the classes not all added":
             ("charge[s] = due.0;", "charge[s] = lists::only_if(s % 3 != 1, due.0);"),
         "supplied of peak only": ("lacking[0] + lacking[1] + lacking[2]", "lacking[2]"),
         # No calls alone bring energy into a class bank: a record that is lent with some shows it.
-        "class banks read as 0": ("let held = of_classes(s, 0);", "let held = [0u64; 24];"),
+        "class banks read as 0":
+            ("let held = of_classes(s, 0, count);", "let held = [0u64; 24];"),
         "all pending taken as peak":
-            ("let pending = of_classes(s, *::CLASS_PENDING);",
+            ("let pending = of_classes(s, *::CLASS_PENDING, count);",
              "let sums = record_bytes::loading::load8(s, *::PENDING);\n"
              "    let mut pending = [0u64; 24];\n    let mut g: usize = 0;\n"
              "    while g < 8 {\n        pending[g * 3 + 2] = sums[g];\n        g += 1;\n    }"),
@@ -213,6 +206,21 @@ FAULTS = {
              "let mut left = give(has, g * 3 + k, want);\n"
              "    if k == 1 {\n        left = give(has, g * 3, left);\n    }"),
         "peak not given to the others": ("give(has, g * 3 + 2, left)", "left"),
+        "class by class over the consumers":
+            ("    let mut c: usize = 0;\n    while c < m {\n"
+             "        let suppliers = *::suppliers_at(s, n, c);\n"
+             "        let keys = suppliers.keys;\n        let want = wanted_at(s, c);",
+             "    let mut t: usize = 0;\n    while t < 3 * m {\n        let c = t % m;\n"
+             "        let k = t / m;\n        let suppliers = *::suppliers_at(s, n, c);\n"
+             "        let keys = suppliers.keys;\n        let open = wanted_at(s, c);\n"
+             "        let mut want = [0u64; 3];\n        want[k] = open[k];",
+             "        let column = by_generator(had, has, n);",
+             "        let mut column = by_generator(had, has, n);\n        let mut g: usize = 0;\n"
+             "        while (k > 0) & (g < n) {\n            column[g] += drawn[g * m + c];\n"
+             "            g += 1;\n        }",
+             "supplied[c] = lacking[0] + lacking[1] + lacking[2];\n        left = next;\n"
+             "        c += 1;",
+             "supplied[c] += lacking[k];\n        left = next;\n        t += 1;"),
         "classes settled peak first":
             ("want[k] = serve(keys, n, k, has, want[k]);",
              "want[2 - k] = serve(keys, n, 2 - k, has, want[2 - k]);"),
@@ -374,7 +382,7 @@ FOUND = re.compile(r"^DIFFERENCE in (.*?)(?:, call \d+ of it \((\w+)\))?, (\d+) 
                    "the start", re.MULTILINE)
 # How the names of what is not a fixed case begin.
 STAGES = {"lists": "random list", "months": "random month", "crossings": "random crossing",
-          "days": "random day", "texts": "random text"}
+          "changeovers": "random changeover", "days": "random day", "texts": "random text"}
 
 
 class NotInSource(Exception):
