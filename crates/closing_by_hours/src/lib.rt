@@ -17,14 +17,15 @@ ghost use Rattle.closing_lists.specs.Laws.ClosingWritten.{OutputRoom, fiveLists
 use class_bank::ClassBank;
 use record::Terms;
 
-// A list by generator that stands `at` places after the start of each class: generator g's number of class k is number g * 3 + k.
-fn of_classes(s: &[u8], at: usize) -> [u64; 24]
-    requires { ⌜ (length (now s) ≡ recordBytes) × (at ≤ 8) ⌝ }
-    ensures { λ r. ⌜ r ≡ table 24 (classNumber (wordsIn (now (s .entry))) at) ⌝ }
+// The first `count` numbers of a list by generator that stands `at` places after the start of each class: generator g's number of class k is
+// number g * 3 + k.
+fn of_classes(s: &[u8], at: usize, count: usize) -> [u64; 24]
+    requires { ⌜ (length (now s) ≡ recordBytes) × ((at ≤ 8) × (count ≤ 24)) ⌝ }
+    ensures { λ r. ⌜ r ≡ filled (replicate 24 0) count (classNumber (wordsIn (now (s .entry))) at) ⌝ }
 {
     let mut out = [0u64; 24];
     let mut i: usize = 0;
-    while i < 24 {
+    while i < count {
         let class = record_places::OFF_PEAK + i % 3 * 32;
         out[i] = record_numbers::number_at(s, class + i / 3 + at);
         i += 1;
@@ -122,11 +123,12 @@ pub fn make(s: &[u8], terms: Terms, out: &mut [u64])
 {
     let n = terms.generators as usize;
     let m = terms.consumers as usize;
-    let held = of_classes(s, 0);
-    let pending = of_classes(s, record_places::CLASS_PENDING);
+    let count = 3 * n;
+    let held = of_classes(s, 0, count);
+    let pending = of_classes(s, record_places::CLASS_PENDING, count);
     let outstanding = record_bytes::loading::load16(s, record_places::OUTSTANDING);
     let before = ClassBank { balance: held };
-    let credit = before.credit(3 * n, pending, terms.rate);
+    let credit = before.credit(count, pending, terms.rate);
     let charge = credit.charge;
     let size = n * m;
     let drawing = draw_all(s, credit.bank, n, m, &mut out[0..size]);

@@ -17,11 +17,18 @@ use Rattle.closing_by_hours.specs.Laws.HoursMade.{n-high, m-high, output
 use Rattle.closing_by_hours.proofs.make.Statement.{statement}
 use Rattle.closing_by_hours.proofs.make.Tie as tie
 
+-- no more generators than the record has places for
+few-at : (c : tie.Start) → c .args .terms .generators ≤ 8
+few-at c = let p = c .pre in n-high _ _ _ (p .0) (p .1 .0) (p .1 .1 .0) (p .1 .1 .1)
+
+mul-count : tie.Need-mul-count
+mul-count c = omega (arith, few-at (c .before .before))
+
 of-classes-requires : tie.Need-of-classes-requires
-of-classes-requires c κs = search needs
+of-classes-requires c κs = let b = c .before .before in (b .pre .0, (omega arith, omega (arith, few-at b)))
 
 of-classes-requires-2 : tie.Need-of-classes-requires-2
-of-classes-requires-2 c κs = search needs
+of-classes-requires-2 c κs = let b = c .before .before .before in (b .pre .0, (omega arith, omega (arith, few-at b)))
 
 load16-requires : tie.Need-load16-requires
 load16-requires c κs = search needs
@@ -34,7 +41,7 @@ abbrev size : tie.After-load16 → ℕ
 size c = start c .args .terms .generators * start c .args .terms .consumers
 
 few : (c : tie.After-load16) → start c .args .terms .generators ≤ 8
-few c = let p = start c .pre in n-high _ _ _ (p .0) (p .1 .0) (p .1 .1 .0) (p .1 .1 .1)
+few c = few-at (start c)
 
 narrow : (c : tie.After-load16) → start c .args .terms .consumers ≤ 16
 narrow c = let p = start c .pre in m-high _ _ _ (p .0) (p .1 .0) (p .1 .1 .0) (p .1 .1 .1)
@@ -44,9 +51,6 @@ small c = mul-le-mul (few c) (narrow c)
 
 long : (c : tie.After-load16) → let a = start c .args in length (a .out .now) ≡ size c + (3 * a .terms .generators + 2 * a .terms .consumers)
 long c = let p = start c .pre in output-long _ _ _ (p .0) (p .1 .0) (p .1 .1 .0) (p .1 .1 .1)
-
-mul-credit : tie.Need-mul-credit
-mul-credit c = omega (arith, few c)
 
 credit-requires : tie.Need-credit-requires
 credit-requires c κs = search needs
@@ -146,4 +150,4 @@ returns c =
     lists-are _ _ _ (p .0) (p .1 .0) (p .1 .1 .0) (p .1 .1 .1) (drew b .draw-all .ensures) _ charged lapsed (r .load16 .ensures)
 
 pub make-spec : {M : Type 1} → statement M
-make-spec = tie.close (tie.spec of-classes-requires of-classes-requires-2 load16-requires mul-credit credit-requires mul-size sub-draw-all part-draw-all-start part-draw-all-end draw-all-requires lapse-requires mul-write-sums sub-write-sums part-write-sums-start part-write-sums-end write-sums-requires same-length returns)
+make-spec = tie.close (tie.spec mul-count of-classes-requires of-classes-requires-2 load16-requires credit-requires mul-size sub-draw-all part-draw-all-start part-draw-all-end draw-all-requires lapse-requires mul-write-sums sub-write-sums part-write-sums-start part-write-sums-end write-sums-requires same-length returns)

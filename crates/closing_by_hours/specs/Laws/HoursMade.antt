@@ -11,7 +11,7 @@ use Rattle.lists.specs.Choice.{if_then_else_}
 use Rattle.lists.specs.Sums.{sum}
 use Rattle.lists.specs.Laws.SumsLaws.{sum-part}
 use Rattle.lists.specs.Tables.{table}
-use Rattle.lists.specs.Laws.TablesLaws.{length-table, table-same, filled, filled-before, filled-later, length-filled, zeros-at}
+use Rattle.lists.specs.Laws.TablesLaws.{getD-table, table-same, filled, filled-before, filled-later, length-filled, zeros-at}
 use Rattle.lists.specs.Pairs.{place, pairs, joined}
 use Rattle.lists.specs.Laws.PairsLaws.{place-in, place-out, row-of, column-of}
 use Rattle.energy.specs.Energy.{portionUp}
@@ -106,13 +106,27 @@ module _ (s : List ℕ) (terms : Terms) (size : ℕ) (whole : length s ≡ recor
   pending-none : (k g : ℕ) → k < classes → b .plan .G ≤ g → stocksOf b k .pending g ≡ 0
   pending-none k g l h = omega (arith, sum-part classes (λ k. stocksOf b k .pending g) k l, pending-total b sound g, pending-beyond b sound g h)
 
-  module _ {held pending : List ℕ} (p : held ≡ table 24 (classNumber (wordsIn s) 0)) (q : pending ≡ table 24 (classNumber (wordsIn s) 8)) where
+  -- a list that was read for the generators of the agreement: all that it leaves out is 0
+  read-at : {xs : List ℕ} (part figure : ℕ → ℕ) → xs ≡ filled none (3 * n) part → place 24 (table 24 part) ≡ figure → ((i : ℕ) → 3 * n ≤ i → figure i ≡ 0) → (i : ℕ) → place 24 xs i ≡ figure i
+  read-at {xs} part figure q e beyond i = go (ltb i (3 * n)) refl (ltb i 24) refl
+    where
+      go : (t : Bool) → ltb i (3 * n) ≡ t → (u : Bool) → ltb i 24 ≡ u → place 24 xs i ≡ figure i
+      go true a u d =
+          let l = ltb-true i (3 * n) a in
+          let w : i < 24 = omega (arith, n-high) in
+          place-in 24 xs i w ∙ ap (λ (ys : List ℕ). getD ys i 0) q ∙ filled-before none (3 * n) part i 0 l ∙ sym (place-in 24 (table 24 part) i w ∙ getD-table 24 part i 0 w) ∙ ap (λ (h : ℕ → ℕ). h i) e
+      go false a true d =
+          let l = ltb-false i (3 * n) a in
+          place-in 24 xs i (ltb-true i 24 d) ∙ ap (λ (ys : List ℕ). getD ys i 0) q ∙ filled-later none (3 * n) part i 0 l ∙ zeros-at 24 i ∙ sym (beyond i l)
+      go false a false d = place-out 24 xs i (ltb-false i 24 d) ∙ sym (beyond i (ltb-false i (3 * n) a))
+
+  module _ {held pending : List ℕ} (p : held ≡ filled none (3 * n) (classNumber (wordsIn s) 0)) (q : pending ≡ filled none (3 * n) (classNumber (wordsIn s) 8)) where
     held-at : (i : ℕ) → place 24 held i ≡ stocksOf b (i % 3) .bank (i / 3)
-    held-at i = ap (λ (xs : List ℕ). place 24 xs i) p ∙ ap (λ (h : ℕ → ℕ). h i) (bank-read (wordsIn s) hours)
+    held-at = read-at (classNumber (wordsIn s) 0) _ p (bank-read (wordsIn s) hours) (λ i l. bank-none (i % 3) (i / 3) (omega arith) (omega (arith, n-is)))
 
     pending-at : (i : ℕ) → place 24 pending i ≡ takenUp b (i % 3) (i / 3)
     unfolding takenUp
-    pending-at i = ap (λ (xs : List ℕ). place 24 xs i) q ∙ ap (λ (h : ℕ → ℕ). h i) (pending-read (wordsIn s) hours)
+    pending-at = read-at (classNumber (wordsIn s) 8) _ q (pending-read (wordsIn s) hours) (λ i l. pending-none (i % 3) (i / 3) (omega arith) (omega (arith, n-is)))
 
     -- no figure of a sound record is beyond the bank's limits
     credit-taken : creditable (record { balance = held }) (3 * n) pending (terms .rate) ≡ true
@@ -147,7 +161,7 @@ module _ (s : List ℕ) (terms : Terms) (size : ℕ) (whole : length s ≡ recor
       charge-at i = λ j. portionUp (pending-at i j) (rate-is j)
 
       held-size : length held ≡ 24
-      held-size = ap length p ∙ length-table 24 _
+      held-size = ap length p ∙ length-filled none (3 * n) _ (omega (arith, n-high))
 
       balance-size : length (x .bank .balance) ≡ 24
       unfolding creditOf
