@@ -16,9 +16,6 @@ ghost use Rattle.record_places.specs.RecordSize.{recordBytes, wordsIn};
 ghost use Rattle.record_places.specs.Laws.Places.{injectedAt, meteredAt, offPeakAt};
 use record::Counts;
 
-// Bank, pending and open of one class of hours.
-const CLASS_NUMBERS: usize = 32;
-
 // What generator g has underdrawn, where its kind is deemed or where it is not, as asked; else 0.
 fn underdrawn_by_kind(s: &[u8], deemed: bool, xs: &[u64], first: usize, m: usize, g: usize) -> u64
     requires { ⌜ (length (now s) ≡ recordBytes) × ((g < 8) × ((first + (g * m + m) ≤ length (now xs)) × ((m ≤ 16) × Moderate (now xs)))) ⌝ }
@@ -97,7 +94,8 @@ fn raise_hours(s: &mut [u8], month: u64, out: &[u64], n: usize, m: usize)
     let switch = record_numbers::number_at(s, record_places::SWITCH_MONTH);
     let closings = record_numbers::number_at(s, record_places::CLOSINGS);
     if hours::apply(switch, closings) {
-        let start = record_places::OFF_PEAK + CLASS_NUMBERS * hours::class_after(month);
+        let start = record_places::OFF_PEAK
+            + record_places::CLASS_NUMBERS * hours::class_after(month);
         raise_class(s, start, out, n, m);
     }
 }

@@ -25,8 +25,8 @@ pub fn settle_turns(s: &[u8], bank: ClassBank, n: usize) -> Settled
         let k = t % 3;
         let suppliers = record_order::suppliers_at(s, n, c);
         let keys = suppliers.keys;
-        let at = record_places::OFF_PEAK + k * 32 + c + record_places::CLASS_OUTSTANDING;
-        let want = record_numbers::number_at(s, at);
+        let class = record_places::OFF_PEAK + k * record_places::CLASS_NUMBERS;
+        let want = record_numbers::number_at(s, class + c + record_places::CLASS_OUTSTANDING);
         lacking[c * 3 + k] = class_bank::serve(&keys, suppliers.count, k, &mut balance, want);
         t += 1;
     }

@@ -26,7 +26,7 @@ fn of_classes(s: &[u8], at: usize, count: usize) -> [u64; 24]
     let mut out = [0u64; 24];
     let mut i: usize = 0;
     while i < count {
-        let class = record_places::OFF_PEAK + i % 3 * 32;
+        let class = record_places::OFF_PEAK + i % 3 * record_places::CLASS_NUMBERS;
         out[i] = record_numbers::number_at(s, class + i / 3 + at);
         i += 1;
     }

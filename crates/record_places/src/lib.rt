@@ -78,7 +78,9 @@ pub const NORMAL: usize = 753;
 
 pub const PEAK: usize = 785;
 
-// How far after the start of its class pending starts, and how far open.
+// The numbers of a class; how far after its start pending starts, and how far open.
+pub const CLASS_NUMBERS: usize = 32;
+
 pub const CLASS_PENDING: usize = 8;
 
 pub const CLASS_OUTSTANDING: usize = 16;

@@ -195,9 +195,6 @@ fn consumers_sound(s: &[u8], m: usize, blocks: u64) -> bool
     ok
 }
 
-// How many numbers a class has: 8 of bank, 8 of pending, 16 of open.
-const CLASS_NUMBERS: usize = 32;
-
 // Before the switch the classes hold nothing: all 0, joined by | as above.
 fn classes_empty(s: &[u8]) -> bool
     requires { ⌜ length (now s) ≡ recordBytes ⌝ }
@@ -205,7 +202,7 @@ fn classes_empty(s: &[u8]) -> bool
 {
     let mut bits: u64 = 0;
     let mut j: usize = 0;
-    while j < CLASS_NUMBERS {
+    while j < record_places::CLASS_NUMBERS {
         bits = bits
             | record_numbers::number_at(s, record_places::OFF_PEAK + j)
             | record_numbers::number_at(s, record_places::NORMAL + j)

@@ -37,17 +37,17 @@ suppliers-at-requires i κs =
     let p = start i .pre in
     record { whole = p .whole; n-is = p .n-is; n-high = few i; c-high = omega (arith, i .loop-test .taken); orderable = orderable _ (p .facts) }
 
-mul-at : tie.Need-mul-at Inv-loop μ-loop
-mul-at c = search needs
+mul-class : tie.Need-mul-class Inv-loop μ-loop
+mul-class c = search needs
 
-add-at : tie.Need-add-at Inv-loop μ-loop
-add-at c = search needs
+add-class : tie.Need-add-class Inv-loop μ-loop
+add-class c = search needs
 
-add-at-2 : tie.Need-add-at-2 Inv-loop μ-loop
-add-at-2 c = search needs
+add-number-at : tie.Need-add-number-at Inv-loop μ-loop
+add-number-at c = search needs
 
-add-at-3 : tie.Need-add-at-3 Inv-loop μ-loop
-add-at-3 c = search needs
+add-number-at-2 : tie.Need-add-number-at-2 Inv-loop μ-loop
+add-number-at-2 c = search needs
 
 number-at-requires : tie.Need-number-at-requires Inv-loop μ-loop
 number-at-requires c κs = (c .before .before .before .before .before .before .pre .whole, search needs)
@@ -97,10 +97,10 @@ settle-turns-spec =
     μ-loop
     loop-holds
     suppliers-at-requires
-    mul-at
-    add-at
-    add-at-2
-    add-at-3
+    mul-class
+    add-class
+    add-number-at
+    add-number-at-2
     number-at-requires
     serve-requires
     mul-lacking

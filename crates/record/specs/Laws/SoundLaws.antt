@@ -98,7 +98,7 @@ pub record Cut (b : Book) : Type 0 where
 
 -- ---- limits
 
-limit-le : (inside : Bool) (n : ℕ) → limit inside n ≤ n
+pub limit-le : (inside : Bool) (n : ℕ) → limit inside n ≤ n
 limit-le true n = omega arith
 limit-le false n = omega arith
 
@@ -518,15 +518,11 @@ module _ (b : Book) (f : Facts b) where
   con-beyond c h = empty-consumer (b .con c) (f .con c .equation) (f .con c .beyond (le-ltb c (b .plan .C) h))
 
   -- a class holds at most its place
-  limit-most : (t : Bool) (x : ℕ) → limit t x ≤ x
-  limit-most true x = omega arith
-  limit-most false x = omega arith
-
   class-part : (v : ClassStocks → ℕ) (whole : ℕ) → v noStocks ≡ 0 → sum classes (λ k. v (b .hours k)) ≡ limit (byHours b) whole → (k : ℕ) → v (b .hours k) ≤ whole
   class-part v whole z e k = go (ltb k 3) refl
     where
       go : (t : Bool) → ltb k 3 ≡ t → v (b .hours k) ≤ whole
-      go true l = omega (arith, sum-part classes (λ k. v (b .hours k)) k (ltb-true k 3 l), e, limit-most (byHours b) whole)
+      go true l = omega (arith, sum-part classes (λ k. v (b .hours k)) k (ltb-true k 3 l), e, limit-le (byHours b) whole)
       go false l = omega (arith, ap v (f .hours-three k (ltb-false k 3 l)), z)
 
   pub class-bank : (k g : ℕ) → b .hours k .bank g ≤ b .gen g .bank

@@ -10,6 +10,7 @@ use Rattle.lists.specs.Sums.{sum}
 use Rattle.energy.specs.Limits.{lastKind, mostCapacity, mostReading, mostUnitBlocks}
 use Rattle.record.specs.Plan.{lowerCapacity}
 use Rattle.record.specs.Sound.{limit, agreedSound}
+use Rattle.record.specs.Laws.SoundLaws.{limit-le}
 use Rattle.sound_items.specs.Laws.Capped.{cap, AsFar, Cut, Clipped}
 
 pub cut-same : {s : ℕ} → Cut s s
@@ -55,10 +56,6 @@ clip-high {x} l = record { cut = record { is = omega arith }; small = omega arit
 -- the capped terms of a sum are added one by one
 pub clip-add : {s t x y : ℕ} → Cut s t → Clipped y x → Cut (s + x) (t + y)
 clip-add h k = cut-add h (k .cut)
-
-pub limit-le : (inside : Bool) (n : ℕ) → limit inside n ≤ n
-limit-le true n = omega arith
-limit-le false n = omega arith
 
 -- the test of an equation whose terms were capped; most is the limit of its left side, as the code has it
 pub capped-equation : {s t most : ℕ} (inside : Bool) (blocks i : ℕ) → most ≡ limit inside (mostReading * blocks) → blocks ≤ mostUnitBlocks → Cut s t → (leb i most && eqb i s) ≡ (leb i (limit inside (mostReading * blocks)) && eqb i t)
