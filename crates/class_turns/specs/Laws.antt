@@ -1,1 +1,2 @@
 pub mod TurnsSettled
+pub mod LibraryTurns
