@@ -12,7 +12,8 @@ pub struct Settled {
     pub lacking: [u64; 48],
 }
 
-// All 16 places of consumers have their turns. Those beyond the agreement want nothing, and nobody serves them.
+// All 16 places of consumers have their turns. Those beyond the agreement want nothing, and nobody serves them. What it asks is what
+// closing_by_hours has shown when it comes to its own drawing.
 pub fn settle_turns(s: &[u8], bank: ClassBank, n: usize) -> Settled
     requires { ⌜ Drawable (now s) bank n (bookIn (now s) .plan .C) ⌝ }
     ensures { λ r. ⌜ TurnsSettled (bookIn (now (s .entry))) 48 (r .bank .balance) (r .lacking) ⌝ }
