@@ -14,8 +14,8 @@ from second.engine import (CLASS_LISTS, CLASS_TERMS, CLASSES, CONSUMER_PLACES, C
                            GENERATOR_PLACES, GENERATOR_TERMS, RECORD_BYTES, RECORD_FORM,
                            RECORD_WORDS, Engine, record_from_bytes, record_to_bytes,
                            sums_over_classes)
-from second.paper_cases import (CASES, DAYS, HOURS, HOURS_OPENINGS, REFUSAL_EXAMPLES,
-                                REFUSED_BETWEEN, with_counts)
+from second.paper_cases import (CASES, DAYS, HOURS, HOURS_OPENINGS, LARGER_FIRST,
+                                REFUSAL_EXAMPLES, REFUSED_BETWEEN, with_counts)
 
 KW_LIMIT = 400_000
 LOSS_LIMIT = 5_000
@@ -84,18 +84,21 @@ def three_by_two():
     return calls
 
 
-def order_case(ranks_by_generator, kinds):
-    """One consumer or two; the metered energy rises, so each generator in turn is the last one
-    that is used, in the block and in the closing."""
+def flat(rows):
+    return [figure for row in rows for figure in row]
+
+
+def order_case(ranks_by_generator, kinds, kw_by_generator):
+    """The metered energy rises, so each generator in turn is the last one that is used, in the
+    block and in the closing."""
     G = len(ranks_by_generator)
     C = len(ranks_by_generator[0])
     generator_list = []
     for g in range(G):
         generator_list += (kinds[g % len(kinds)], 100, 100)
     losses = [100 * g + c for g in range(G) for c in range(C)]
-    ranks = [rank for row in ranks_by_generator for rank in row]
     calls = [open_call(G, C, 100, 1, 0, generator_list, [1] * (G * C) + losses),
-             schedule_call([10 + g for g in range(G) for _ in range(C)], ranks)]
+             schedule_call(flat(kw_by_generator), flat(ranks_by_generator))]
     entry = [(2_000 + 300 * g) * C for g in range(G)]
     for step in range(2 * G + 3):
         exit = [1_500 * step + 7 * c for c in range(C)]
@@ -106,23 +109,74 @@ def order_case(ranks_by_generator, kinds):
 
 
 EVERY_KIND = (1, 0, 3, 2)
-# Ranks by generator, then consumer; kinds.
+
+
+def in_rows(C, *figures):
+    """A row of C equal figures for each generator."""
+    return [[figure] * C for figure in figures]
+
+
+def rising_kw(G, C):
+    return in_rows(C, *range(10, 10 + G))
+
+
+# Ranks by generator, then consumer; kinds; kW as the ranks, at most 100 of a generator.
 ORDERS = {
-    "five, falling": ([[5], [4], [3], [2], [1]], EVERY_KIND),
-    "five, mixed": ([[3, 200], [7, 9], [3, 1], [1, 255], [2, 9]], EVERY_KIND),
-    "five deemed, ties": ([[2], [1], [2], [1], [1]], (3,)),
+    "five, falling": (in_rows(1, 5, 4, 3, 2, 1), EVERY_KIND, rising_kw(5, 1)),
+    "five, mixed": ([[3, 200], [7, 9], [3, 1], [1, 255], [2, 9]], EVERY_KIND, rising_kw(5, 2)),
+    "five deemed, ties": (in_rows(1, 2, 1, 2, 1, 1), (3,), in_rows(1, 7, 7, 7, 7, 7)),
     "eight, mixed": (
         [[4, 8, 255], [1, 7, 254], [129, 6, 1], [2, 5, 128], [4, 4, 127], [255, 3, 1], [3, 2, 2],
-         [5, 1, 255]], EVERY_KIND),
-    "eight deemed, equal but for the last": ([[9]] * 7 + [[8]], (1, 2, 3)),
+         [5, 1, 255]], EVERY_KIND, rising_kw(8, 3)),
+    "eight deemed, equal but for the last": (
+        in_rows(1, 9, 9, 9, 9, 9, 9, 9, 8), (1, 2, 3), in_rows(1, *[20] * 8)),
     "eight of kind 0, ranks of one remainder": (
-        [[253], [5], [249], [9], [17], [13], [1], [257 - 4]], (0,)),
+        in_rows(1, 253, 5, 249, 9, 17, 13, 1, 253), (0,), rising_kw(8, 1)),
+    # F-2: equal ranks, and kW that rise, fall, are equal in part, differ by consumer.
+    "eight of equal rank, kW rising": (in_rows(1, *[4] * 8), EVERY_KIND, rising_kw(8, 1)),
+    "eight of equal rank, kW falling": (
+        in_rows(2, *[255] * 8), EVERY_KIND, rising_kw(8, 2)[::-1]),
+    "eight of equal rank, many of equal kW": (
+        in_rows(1, *[1] * 8), (1,), in_rows(1, 9, 30, 9, 30, 9, 1, 30, 1)),
+    "eight of two ranks, many of equal kW": (
+        in_rows(1, 2, 1, 2, 1, 1, 2, 1, 2), (0, 3), in_rows(1, 9, 30, 9, 30, 9, 90, 30, 90)),
+    "eight of equal rank, kW by consumer": (
+        in_rows(3, *[7] * 8), EVERY_KIND,
+        [[1, 30, 5], [2, 29, 5], [30, 1, 5], [3, 28, 6], [4, 3, 6], [29, 2, 30], [5, 5, 1],
+         [5, 6, 29]]),
 }
 
 
 def orders():
-    for name, (ranks, kinds) in ORDERS.items():
-        yield name, order_case(ranks, kinds)
+    for name, order in ORDERS.items():
+        yield name, order_case(*order)
+
+
+def orders_at_the_limits_of_kw():
+    """F-2: the highest kW beside one less, kW that end in the same bits, no kW beside the highest
+    of the next rank."""
+    for kw, ranks in (((399_999, 400_000), (1, 1)), ((400_000, 399_999), (1, 1)),
+                      ((1, 65_536), (255, 255)), ((262_143, 262_144), (9, 9)),
+                      ((400_000, 0), (2, 1)), ((400_000, 1), (255, 254)), ((1, 0), (2, 1))):
+        yield f"{kw[0]:,} and {kw[1]:,} kW of ranks {ranks[0]} and {ranks[1]}", [
+            open_call(2, 1, 0, 2, 0, (1, KW_LIMIT, KW_LIMIT) * 2, (1, 1, 0, 0)),
+            # Both have energy left over; what is wanted then takes some of both.
+            schedule_call((5, 5), (1, 1)), block_call((1_000, 1_000), (0,)),
+            schedule_call(kw, ranks), block_call((1_000, 1_000), (1_500,)),
+            block_call((0, 0), (1_500,)), close_call(2, 1)]
+
+
+def schedules_within_a_month():
+    """F-2: a block goes by the schedule that stands at it, drawing by the last one of the month."""
+    kw_by_month = (((40, 60), (60, 40)), ((60, 40), (40, 60)), ((60, 0), (0, 60)),
+                   ((40, 40), (1, 60)), ((1, 60), (40, 40)))
+    for switch_month in (0, 1, 4):
+        calls = [open_call(2, 1, 500, 12, 0, (1, 60, 60, 3, 60, 60), (1, 1, 0, 300), switch_month)]
+        for first, last in kw_by_month:
+            calls += [schedule_call(first, (1, 1)), block_call((9_000, 9_000), (3_000,)),
+                      schedule_call(last, (1, 1)), block_call((9_000, 9_000), (3_000,)),
+                      block_call((0, 0), (14_000,)), close_call(2, 1)]
+        yield f"kW changed within each month, switch month {switch_month}", calls
 
 
 def cycles():
@@ -807,10 +861,10 @@ def long_months():
 def hours_orders():
     """As the orders above, by records: in each class the open energy rises, so each generator in
     turn is the last one that gives, of its class or of peak."""
-    for name, (ranks, kinds) in ORDERS.items():
+    for name, (ranks, kinds, kw) in ORDERS.items():
         G, C = len(ranks), len(ranks[0])
         unit = [simple_unit(G, C, kinds=kinds, switch_month=1),
-                schedule_call([1] * (G * C), [rank for row in ranks for rank in row])]
+                schedule_call(flat(kw), flat(ranks))]
         calls = []
         for step in range(2 * G + 4):
             record = after(unit)
@@ -1224,8 +1278,12 @@ def fixed_cases():
         yield name, calls
     for number, calls in REFUSAL_EXAMPLES.items():
         yield f"example of refusal {number}", calls
+    for what, (calls, _) in LARGER_FIRST.items():
+        yield f"F-2, {what}", calls
     yield "3 x 2 over four months", three_by_two()
     yield from orders()
+    yield from orders_at_the_limits_of_kw()
+    yield from schedules_within_a_month()
     yield from cycles()
     yield from paper_hours()
     yield from switches()

@@ -79,8 +79,9 @@ def ranks_for(rng, count):
 
 
 def schedule_for(rng, unit):
-    """A schedule without fault."""
+    """A schedule without fault; in every third one many pairs have equal kW."""
     G, C = unit.generators, unit.consumers
+    step = rng.choice((0, 0, rng.choice((1, 10, 1_000))))
     kw = []
     for g in range(G):
         # A damaged record may hold more than an input does.
@@ -92,6 +93,8 @@ def schedule_for(rng, unit):
         rng.shuffle(linked)
         for c in linked:
             share = rng.choice((0, left, left // 2, left // max(1, len(linked)), left // 3))
+            if step:
+                share = min(left, step * rng.randrange(3))
             row[c] = share
             left -= share
         kw += row

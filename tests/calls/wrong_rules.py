@@ -11,6 +11,7 @@ import argparse
 import struct
 import sys
 import time
+from copy import deepcopy
 from itertools import count
 from pathlib import Path
 
@@ -103,28 +104,151 @@ class SetOffByNumber(Engine):
 
 @wrong("ranks taken modulo 4")
 class RanksModulo4(Engine):
-    def inter_se_order(self, record, c):
-        return sorted(range(record.generators), key=lambda g: (record.rank[g][c] % 4, g))
+    def standing(self, record, g, c):
+        rank, *others = super().standing(record, g, c)
+        return rank % 4, *others
 
 
 @wrong("ranks taken modulo 128")
 class RanksModulo128(Engine):
-    def inter_se_order(self, record, c):
-        return sorted(range(record.generators), key=lambda g: (record.rank[g][c] % 128, g))
+    def standing(self, record, g, c):
+        rank, *others = super().standing(record, g, c)
+        return rank % 128, *others
 
 
 @wrong("generators from the fifth on unordered")
 class FifthUnordered(Engine):
     def inter_se_order(self, record, c):
-        first = min(4, record.generators)
-        ordered = sorted(range(first), key=lambda g: (record.rank[g][c], g))
-        return ordered + list(range(first, record.generators))
+        first = range(min(4, record.generators))
+        ordered = sorted(first, key=lambda g: self.standing(record, g, c))
+        return ordered + list(range(len(first), record.generators))
 
 
-@wrong("equal ranks by higher generator number")
+@wrong("equal kW by higher generator number")
 class TiesReversed(Engine):
+    def standing(self, record, g, c):
+        rank, kw, number = super().standing(record, g, c)
+        return rank, kw, -number
+
+
+# ---- Bigger supplier first (F-2) ----
+
+def former_standing(record, g, c):
+    """Document 01, before F-2: equal ranks by lower generator number."""
+    return record.rank[g][c], g
+
+
+def former_order(record, c):
+    return sorted(range(record.generators), key=lambda g: former_standing(record, g, c))
+
+
+@wrong("F-2: former order")
+class FormerOrder(Engine):
+    def standing(self, record, g, c):
+        return former_standing(record, g, c)
+
+
+@wrong("F-2: smaller first")
+class SmallerFirst(Engine):
+    def standing(self, record, g, c):
+        return record.rank[g][c], record.kw[g][c], g
+
+
+@wrong("F-2: by the generator's sum")
+class ByTheSum(Engine):
+    def standing(self, record, g, c):
+        return record.rank[g][c], -sum(record.kw[g]), g
+
+
+@wrong("F-2: by the installed capacity")
+class ByInstalled(Engine):
+    def standing(self, record, g, c):
+        return record.rank[g][c], -record.installed[g], g
+
+
+@wrong("F-2: by the lower capacity")
+class ByCapacity(Engine):
+    def standing(self, record, g, c):
+        return record.rank[g][c], -self.lower_capacity(record, g), g
+
+
+@wrong("F-2: kW of the first consumer")
+class KwOfTheFirstConsumer(Engine):
+    def standing(self, record, g, c):
+        return record.rank[g][c], -record.kw[g][0], g
+
+
+@wrong("F-2: kW before rank")
+class KwBeforeRank(Engine):
+    def standing(self, record, g, c):
+        return -record.kw[g][c], record.rank[g][c], g
+
+
+@wrong("F-2: 0 kW first among equals")
+class NoKwFirst(Engine):
+    def standing(self, record, g, c):
+        rank, kw, number = super().standing(record, g, c)
+        return rank, kw != 0, kw, number
+
+
+# Keys of one number, too narrow for the highest kW.
+
+@wrong("F-2: kW taken modulo 65,536")
+class KwOf16Bits(Engine):
+    def standing(self, record, g, c):
+        return record.rank[g][c], -(record.kw[g][c] % 65_536), g
+
+
+@wrong("F-2: small kW of one rank after large kW of the next")
+class RanksTooNear(Engine):
+    def standing(self, record, g, c):
+        return record.rank[g][c] * 262_144 - record.kw[g][c], g
+
+
+@wrong("F-2: order of the opening kept")
+class OrderOfTheOpening(Engine):
     def inter_se_order(self, record, c):
-        return sorted(range(record.generators), key=lambda g: (record.rank[g][c], -g))
+        # An opening leaves every rank 1 and no kW.
+        return range(record.generators)
+
+
+@wrong("F-2: drawing by the schedule of the month's first block")
+class DrawnByTheFirstSchedule(Engine):
+    first = None
+
+    def block_rules(self, record, entry, exit):
+        if record.month_blocks == 0:
+            self.first = deepcopy(record)
+        return super().block_rules(record, entry, exit)
+
+    def drawing_order(self, record, c):
+        return super().drawing_order(self.first or record, c)
+
+
+@wrong("F-2: drawing by the former order")
+class DrawingByTheFormerOrder(Engine):
+    def drawing_order(self, record, c):
+        return [g for g in former_order(record, c) if record.link[g][c] == 1]
+
+
+class BothOrders(Engine):
+    """Keeps the former order of the consumer that a block settles."""
+
+    def inter_se_order(self, record, c):
+        self.former = former_order(record, c)
+        return super().inter_se_order(record, c)
+
+
+@wrong("F-2: set-off by the former order")
+class SetOffByTheFormerOrder(BothOrders):
+    def set_off(self, order, delivered, left):
+        return super().set_off(self.former, delivered, left)
+
+
+@wrong("F-2: shortfall by the former order")
+class ShortfallByTheFormerOrder(BothOrders):
+    def shortfall(self, order, delivered, scheduled, left):
+        return super().shortfall(self.former, delivered, scheduled, left)
 
 
 # ---- Schedule ----

@@ -1,5 +1,6 @@
 """The second engine: the energy account of one unit, from document 01; a day of a main and a check
-meter and the bank by hours, from F-1 and F-7 of document 02; all as docs/DECISIONS.md reads them.
+meter, the bigger supplier first and the bank by hours, from F-1, F-2 and F-7 of document 02; all as
+docs/DECISIONS.md reads them.
 
 It is the measure for the proved engine, so it is written to be checked by eye against the paper:
 rules and steps stand in the paper's order under the paper's words. Energy is in whole watt-hours,
@@ -239,9 +240,13 @@ class Engine:
         return all(1 <= min(row[:C]) and max(row[:C]) <= self.HIGHEST_RANK
                    for row in record.rank[:record.generators])
 
+    def standing(self, record, g, c):
+        """Rising rank; F-2: "For equal ranks the larger scheduled kW of that pair comes first, then
+        the lower generator number." The lowest goes first."""
+        return record.rank[g][c], -record.kw[g][c], g
+
     def inter_se_order(self, record, c):
-        """Rising rank, equal ranks by lower generator number."""
-        return sorted(range(record.generators), key=lambda g: (record.rank[g][c], g))
+        return sorted(range(record.generators), key=lambda g: self.standing(record, g, c))
 
     # ---- Soundness ----
 

@@ -1,7 +1,7 @@
 #!/usr/bin/env python3
 """Document 01's own figures, checked on the second engine: P1 to P10, the printed table, and the
-example of each refusal number; and what document 02 says of a day of two meters (F-1) and of the
-bank by hours (F-7), computed by hand.
+example of each refusal number; and what document 02 says of a day of two meters (F-1), of the
+bigger supplier (F-2) and of the bank by hours (F-7), computed by hand.
 
 Run as a script: prints each figure that differs and how many were checked; ends with 1 on a
 difference. The lists of calls are also run against the library (compare.py).
@@ -117,6 +117,70 @@ DAYS = {
     "a main day of 95": (day_call(day_of()[:95], day_of(), 0), (2,)),
     "a check day of 97": (day_call(day_of(), day_of() + (5_000,), 0), (2,)),
     "a day of 95, one missing in each": (day_call(day_of(MISSING)[:95], day_of(MISSING), 0), (2,)),
+}
+
+
+# ---- Bigger supplier first (F-2) ----
+
+def two_suppliers(kind, rate=0, switch_month=0):
+    """Two of one kind and one consumer, loss 0, either may have 40 or 60 kW."""
+    return open_call(2, 1, rate, 12, 0, (kind, 60, 60) * 2, (1, 1, 0, 0), switch_month)
+
+
+FORTY_AND_SIXTY = schedule_call((40, 60), (1, 1))
+SIXTY_AND_FORTY = schedule_call((60, 40), (1, 1))
+# Two of wind: 10,000 Wh of each are left over, then 12,000 Wh are wanted.
+BOTH_BANKED = [two_suppliers(WIND), FORTY_AND_SIXTY, block_call((10_000,) * 2, (0,)),
+               block_call((0, 0), (12_000,))]
+CLOSE_BOTH = close_call(2, 1)
+
+# A list of calls, all accepted, with what document 02 makes of the last one's output.
+LARGER_FIRST = {
+    "P7 with 40 and 60 kW": (
+        [two_suppliers(SCHEDULED), FORTY_AND_SIXTY, block_call((10_000,) * 2, (12_000,))],
+        {"set_off": [2_000, 10_000], "underdrawn": [8_000, 0], "shortfall": [0, 0]}),
+    "P7 with 60 and 40 kW": (
+        [two_suppliers(SCHEDULED), SIXTY_AND_FORTY, block_call((10_000,) * 2, (12_000,))],
+        {"set_off": [10_000, 2_000], "underdrawn": [0, 8_000], "shortfall": [0, 0]}),
+    # The rank comes first: as P6 and P7, whatever the kW.
+    "the smaller with the lower rank": (
+        [two_suppliers(SCHEDULED), schedule_call((40, 60), (1, 2)),
+         block_call((10_000,) * 2, (12_000,))],
+        {"set_off": [10_000, 2_000], "underdrawn": [0, 8_000]}),
+    # 40 kW are 10,000 Wh and 60 kW 15,000 Wh. 8,000 Wh are set off; of the 4,000 Wh that are still
+    # wanted the larger is 11,000 Wh short, the smaller 6,000 Wh.
+    "shortfall of the larger": (
+        [two_suppliers(SCHEDULED), FORTY_AND_SIXTY, block_call((4_000,) * 2, (12_000,))],
+        {"set_off": [4_000, 4_000], "shortfall": [0, 4_000], "remainder": [0]}),
+    "shortfall of both": (
+        [two_suppliers(SCHEDULED), FORTY_AND_SIXTY, block_call((4_000,) * 2, (20_000,))],
+        {"set_off": [4_000, 4_000], "shortfall": [1_000, 11_000], "remainder": [0]}),
+    "drawing from the larger": (
+        BOTH_BANKED + [CLOSE_BOTH],
+        {"drawn": [2_000, 10_000], "bank": [8_000, 0], "supplied": [0]}),
+    "the schedule that stands at the closing": (
+        BOTH_BANKED + [SIXTY_AND_FORTY, CLOSE_BOTH],
+        {"drawn": [10_000, 2_000], "bank": [0, 8_000], "supplied": [0]}),
+    "the ranks that stand at the closing": (
+        BOTH_BANKED + [schedule_call((40, 60), (1, 2)), CLOSE_BOTH],
+        {"drawn": [10_000, 2_000], "bank": [0, 8_000], "supplied": [0]}),
+    "0 kW comes last among equals": (
+        BOTH_BANKED + [schedule_call((0, 1), (1, 1)), CLOSE_BOTH],
+        {"drawn": [2_000, 10_000], "bank": [8_000, 0]}),
+    "equal kW: the lower number": (
+        BOTH_BANKED + [schedule_call((7, 7), (3, 3)), CLOSE_BOTH],
+        {"drawn": [10_000, 2_000], "bank": [0, 8_000]}),
+    # Consumer 1 has 10 kW of generator 1, which has 100 kW in all and a capacity of 400, and 20 kW
+    # of generator 2. Of 25,000 Wh it gets 2,500 from the one and 5,000 from the other, and wants
+    # 6,000.
+    "the kW of that pair": (
+        [open_call(2, 2, 0, 12, 0, (SCHEDULED, 400, 400, SCHEDULED, 20, 20), (1,) * 4 + (0,) * 4),
+         schedule_call((10, 90, 20, 0), (1,) * 4), block_call((25_000, 5_000), (6_000, 0))],
+        {"set_off": [1_000, 0, 5_000, 0], "underdrawn": [1_500, 22_500, 0, 0]}),
+    "drawing by hours": (
+        [two_suppliers(WIND, switch_month=1), FORTY_AND_SIXTY, block_call((10, 10), (0,)),
+         block_call((0, 0), (12,)), CLOSE_BOTH],
+        {"drawn": [2, 10], "lapsed": [8, 0], "supplied": [0]}),
 }
 
 
@@ -425,15 +489,20 @@ def check_days(figures, engine):
         figures.equal("F-1, " + what, (outcome.number, outcome.output), (number, output))
 
 
-def check_hours(figures, engine):
-    for what, (calls, paper) in HOURS.items():
+def check_accepted(figures, engine, request, cases):
+    """Lists of calls, with figures of the last output and of the record."""
+    for what, (calls, paper) in cases.items():
         settled = Settled(calls, engine)
-        figures.equal(f"F-7, {what}, all calls accepted", set(settled.numbers), {ACCEPTED})
+        figures.equal(f"{request}, {what}, all calls accepted", set(settled.numbers), {ACCEPTED})
         for figure, value in paper.items():
             got = attrgetter(figure)(settled)
             # Of a record's list the first places, as many as are given.
-            figures.equal(f"F-7, {what}, {figure}",
+            figures.equal(f"{request}, {what}, {figure}",
                           got[:len(value)] if isinstance(got, list) else got, value)
+
+
+def check_hours(figures, engine):
+    check_accepted(figures, engine, "F-7", HOURS)
     for what, (call, number) in HOURS_OPENINGS.items():
         unit = SecondUnit(engine)
         record = unit.record
@@ -516,6 +585,7 @@ def main():
     check_printed_table(figures)
     check_refusals(figures, engine)
     check_days(figures, engine)
+    check_accepted(figures, engine, "F-2", LARGER_FIRST)
     check_hours(figures, engine)
     check_reader_edges(figures)
     for line in figures.wrong:

@@ -332,6 +332,29 @@ fn p6_and_p7_inter_se_order() {
 }
 
 #[test]
+fn f2_larger_kw_of_the_pair_first() {
+    let unit = Agreement::to_one_consumer(&[0, 0], &[60, 60], &[0, 0]).opened();
+    let mut unit = unit.scheduled(&[40, 60], &[1, 1]);
+    assert_eq!(
+        unit.block(&[10_000, 10_000], &[12_000]).set_off,
+        [2_000, 10_000]
+    );
+    assert_eq!(unit.block(&[4_000, 4_000], &[12_000]).shortfall, [0, 4_000]);
+}
+
+#[test]
+fn f2_drawing_by_the_schedule_at_the_closing() {
+    let unit = Agreement::to_one_consumer(&[1, 1], &[60, 60], &[0, 0]).opened();
+    let mut unit = unit.scheduled(&[40, 60], &[1, 1]);
+    unit.block(&[10_000, 10_000], &[0]);
+    unit.block(&[0, 0], &[12_000]);
+    // 9,000 of each are left after the charge.
+    assert_eq!(unit.clone().close().drawn, [3_000, 9_000]);
+    let mut unit = unit.scheduled(&[60, 40], &[1, 1]);
+    assert_eq!(unit.close().drawn, [9_000, 3_000]);
+}
+
+#[test]
 fn p8_no_kw_scheduled() {
     let block = Agreement::a().opened().block(&[500], &[0, 0]);
     assert_eq!(block.unaccounted, [500]);

@@ -1,5 +1,5 @@
--- Document 01's closing as it stands there, kept to say what document 02's "closings before it follow the old rules" means, and that claim,
--- `Former`. Laws/FormerClosingProof proves it. Assumes nothing.
+-- Document 01's closing as it stands there, in the inter-se order of today (F-2), kept to say what document 02's "closings before it follow the
+-- old rules" means, and that claim, `Former`. Laws/FormerClosingProof proves it. Assumes nothing.
 use Prim.Native.Nat.{ℕ, _+_, _-_, _*_}
 use mathlib.Core.Path.{_≡_}
 use mathlib.Core.Bool.{Bool, true, false}

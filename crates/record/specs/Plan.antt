@@ -38,7 +38,7 @@ module _ (p : Plan) where
 
   -- what consumer c's generators are placed by
   abbrev pub standing : ℕ → ℕ → Standing
-  standing c g = record { rank = p .rank g c }
+  standing c g = record { rank = p .rank g c; kw = p .kw g c }
 
   -- the inter-se order of the generators for consumer c
   unfoldable pub order : ℕ → List ℕ

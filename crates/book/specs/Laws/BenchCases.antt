@@ -1,4 +1,4 @@
--- Document 01, "Bench cases": P1 to P10, every figure that the paper gives, and cases of document 02's F-7, as one theorem on the rules.
+-- Document 01, "Bench cases": P1 to P10, every figure that the paper gives, and cases of document 02's F-2 and F-7, as one theorem on the rules.
 -- Assumes nothing.
 use Prim.Native.Nat.{ℕ, _+_}
 use mathlib.Core.Bool.{true, false, _&&_}
@@ -62,6 +62,22 @@ wind loss = oneConsumer 1 (1 ∷ 40 ∷ 40 ∷ []) (loss ∷ [])
 unfoldable pub slot50 : Opening
 slot50 = oneConsumer 3 (0 ∷ 20_000 ∷ 20_000 ∷ 0 ∷ 44_000 ∷ 44_000 ∷ 3 ∷ 320_000 ∷ 320_000 ∷ []) (0 ∷ 0 ∷ 1_000 ∷ [])
 
+-- ---- F-2
+
+-- two of one kind that may be scheduled at 40 or 60 kW each, loss 0
+unfoldable pub twoOfSixty : ℕ → Opening
+twoOfSixty kind = oneConsumer 2 (kind ∷ 60 ∷ 60 ∷ kind ∷ 60 ∷ 60 ∷ []) (0 ∷ 0 ∷ [])
+
+abbrev fortyAndSixty : Call
+fortyAndSixty = schedule (40 ∷ 60 ∷ []) (1 ∷ 1 ∷ [])
+
+abbrev sixtyAndForty : Call
+sixtyAndForty = schedule (60 ∷ 40 ∷ []) (1 ∷ 1 ∷ [])
+
+-- of wind: 10,000 pending of each, 12,000 open
+abbrev bothBanked : Book
+bothBanked = bookAfter (opened (twoOfSixty 1)) (fortyAndSixty ∷ block (10_000 ∷ 10_000 ∷ []) (0 ∷ []) 11 ∷ block (0 ∷ 0 ∷ []) (12_000 ∷ []) 11 ∷ [])
+
 -- ---- F-7
 
 -- the schedule and both lines under agreement A, whatever its bank terms
@@ -81,7 +97,9 @@ twoMonths = linesA ++ (closing 9 ∷ linesA)
 pub record BenchCases : Type 0 where
   -- no number applies to any of these openings
   pub all-opened :
-      openingRefusal agreementA + openingRefusal oneScheduled + openingRefusal twoScheduled + openingRefusal (wind 0) + openingRefusal (wind 1) + openingRefusal slot50 ≡ 0
+      openingRefusal agreementA + openingRefusal oneScheduled + openingRefusal twoScheduled + openingRefusal (wind 0) + openingRefusal (wind 1) + openingRefusal slot50 +
+      openingRefusal (twoOfSixty 0) + openingRefusal (twoOfSixty 1) ≡
+      0
   -- F-7: agreement A has switch month 0, so no closing of it goes by hours
   pub never-by-hours : (closings : ℕ) → hoursApply (agreementA .switch) closings ≡ false
   -- P1: parts 23,333 and 46,668, losses 2,334 each, remainders 0 and 15,666
@@ -129,6 +147,20 @@ pub record BenchCases : Type 0 where
   pub P7 :
       bookAnswers (opened twoScheduled) (schedule (40 ∷ 40 ∷ []) (1 ∷ 1 ∷ []) ∷ block (10_000 ∷ 10_000 ∷ []) (12_000 ∷ []) 11 ∷ []) ≡
       accepted [] ∷ accepted (0 ∷ 0 ∷ 10_000 ∷ 2_000 ∷ 0 ∷ 8_000 ∷ 0 ∷ 0 ∷ 0 ∷ 0 ∷ 0 ∷ []) ∷ []
+  -- F-2, P7 with 40 and 60 kW: the larger first, 2,000 and 10,000
+  pub larger-set-off :
+      bookAnswers (opened (twoOfSixty 0)) (fortyAndSixty ∷ block (10_000 ∷ 10_000 ∷ []) (12_000 ∷ []) 11 ∷ []) ≡
+      accepted [] ∷ accepted (0 ∷ 0 ∷ 2_000 ∷ 10_000 ∷ 8_000 ∷ 0 ∷ 0 ∷ 0 ∷ 0 ∷ 0 ∷ 0 ∷ []) ∷ []
+  -- E 4,000 each, 6,000 and 11,000 below what is scheduled: the 4,000 that are then still wanted are the larger's shortfall
+  pub larger-shortfall :
+      bookAnswers (opened (twoOfSixty 0)) (fortyAndSixty ∷ block (4_000 ∷ 4_000 ∷ []) (12_000 ∷ []) 11 ∷ []) ≡
+      accepted [] ∷ accepted (0 ∷ 0 ∷ 4_000 ∷ 4_000 ∷ 0 ∷ 0 ∷ 0 ∷ 4_000 ∷ 0 ∷ 0 ∷ 0 ∷ []) ∷ []
+  -- drawing, of 9,000 each after the charge: 3,000 and 9,000
+  pub larger-drawn : bookAnswers bothBanked (closing 10 ∷ []) ≡ accepted (3_000 ∷ 9_000 ∷ 1_000 ∷ 1_000 ∷ 0 ∷ 0 ∷ 6_000 ∷ 0 ∷ 12_000 ∷ 0 ∷ []) ∷ []
+  -- the schedule that stands at the closing counts: 60 and 40 kW after the blocks, 9,000 and 3,000
+  pub drawn-by-the-last-schedule :
+      bookAnswers bothBanked (sixtyAndForty ∷ closing 10 ∷ []) ≡
+      accepted [] ∷ accepted (9_000 ∷ 3_000 ∷ 1_000 ∷ 1_000 ∷ 0 ∷ 0 ∷ 0 ∷ 6_000 ∷ 12_000 ∷ 0 ∷ []) ∷ []
   -- P8: wind with no kW, E 500: unaccounted 500
   pub P8 :
       bookAnswers (opened (wind 0)) (schedule (0 ∷ []) (1 ∷ []) ∷ block (500 ∷ []) (0 ∷ []) 6 ∷ []) ≡
@@ -186,7 +218,7 @@ pub record BenchCases : Type 0 where
   pub opened-switch : map openingRefusal (switched 2 1 1_200 ∷ switched 2 1 1_201 ∷ switched 2 2 1_201 ∷ switched 2 2 1 ∷ []) ≡ 0 ∷ 19 ∷ 6 ∷ 6 ∷ []
 
 pub bench-cases : BenchCases
-unfolding agreementA oneConsumer oneScheduled twoScheduled wind slot50 sum table all some within place cell pairs joined firstOf portionUp lossOn part span insert sort only ahead inOrder lower settle given kept unmet deemed scheduled order suppliers countedOf counted unaccounted partOf lossOf delivered atExit setOff afterSetOff underdrawn shortfall remainder blockLists blockOutput noInjection noConsumption kindOf installedOf contractedOf linkOf rateOfLoss sizesFit termsFit openingRefusal opened newKw newRank scheduleRefusal afterSchedule scheduleRule generatorAfterBlock consumerAfterBlock afterBlock blockLength entryOf exitOf blockNumber blockRefusal blockRule slotAfter classOfSlot hoursApply beforeSwitch noStocks addsTo classAfterBlock firstGone stockAt drawnAt missingAt cycleEnds lapseDue sourcesOf undivided stocksOf takenUp chargeOf credited serving stock want drawnOf bankLeft suppliedOf charge drawn supplied bankBeforeLapse lapses goneAfter lapsed bankAfter generatorAfterClosing consumerAfterClosing afterClosing closingLists closingOutput closingLength closingNumber closingRefusal closingRule ruleOf next bookAfter bookAnswers switched hourly holding countsSound agreedSound pairSound generatorSound consumerSound switchSound classesSound bankTotal pendingTotal openTotal generatorHours consumerHours sound
+unfolding agreementA oneConsumer oneScheduled twoScheduled wind slot50 twoOfSixty sum table all some within place cell pairs joined firstOf portionUp lossOn part span insert sort only ahead inOrder lower settle given kept unmet deemed scheduled order suppliers countedOf counted unaccounted partOf lossOf delivered atExit setOff afterSetOff underdrawn shortfall remainder blockLists blockOutput noInjection noConsumption kindOf installedOf contractedOf linkOf rateOfLoss sizesFit termsFit openingRefusal opened newKw newRank scheduleRefusal afterSchedule scheduleRule generatorAfterBlock consumerAfterBlock afterBlock blockLength entryOf exitOf blockNumber blockRefusal blockRule slotAfter classOfSlot hoursApply beforeSwitch noStocks addsTo classAfterBlock firstGone stockAt drawnAt missingAt cycleEnds lapseDue sourcesOf undivided stocksOf takenUp chargeOf credited serving stock want drawnOf bankLeft suppliedOf charge drawn supplied bankBeforeLapse lapses goneAfter lapsed bankAfter generatorAfterClosing consumerAfterClosing afterClosing closingLists closingOutput closingLength closingNumber closingRefusal closingRule ruleOf next bookAfter bookAnswers switched hourly holding countsSound agreedSound pairSound generatorSound consumerSound switchSound classesSound bankTotal pendingTotal openTotal generatorHours consumerHours sound
 bench-cases =
     record {
       all-opened = refl;
@@ -201,6 +233,10 @@ bench-cases =
       P5-inadvertent = refl;
       P6 = refl;
       P7 = refl;
+      larger-set-off = refl;
+      larger-shortfall = refl;
+      larger-drawn = refl;
+      drawn-by-the-last-schedule = refl;
       P8 = refl;
       P9 = refl;
       P9-part = refl;

@@ -587,4 +587,4 @@ module _ (b : Book) (f : Facts b) where
       go false e = omega (arith, pair-beyond g c (inr (ltb-false c (b .plan .C) e)) .1 .1 .0)
 
   pub orderable : Orderable (b .plan)
-  orderable = record { rank-high = λ g c. f .pair g c .rank }
+  orderable = record { rank-high = λ g c. f .pair g c .rank; kw-high = kw-most }
