@@ -73,15 +73,11 @@ def agreement(rng, busy=False):
                      switch_month_for(rng))
 
 
-def ranks_for(rng, count):
-    most = rng.choice((1, 2, 8, 255))
-    return [rng.randint(1, most) for _ in range(count)]
-
-
 def schedule_for(rng, unit):
-    """A schedule without fault; in every third one many pairs have equal kW."""
+    """A schedule without fault; in every third one many pairs have equal ranks and equal kW."""
     G, C = unit.generators, unit.consumers
     step = rng.choice((0, 0, rng.choice((1, 10, 1_000))))
+    most_rank = rng.choice((1, 1, 2) if step else (1, 2, 8, 255))
     kw = []
     for g in range(G):
         # A damaged record may hold more than an input does.
@@ -94,11 +90,11 @@ def schedule_for(rng, unit):
         for c in linked:
             share = rng.choice((0, left, left // 2, left // max(1, len(linked)), left // 3))
             if step:
-                share = min(left, step * rng.randrange(3))
+                share = min(left, step * rng.choice((0, 1, 1, 2)))
             row[c] = share
             left -= share
         kw += row
-    return schedule_call(kw, ranks_for(rng, G * C))
+    return schedule_call(kw, [rng.randint(1, most_rank) for _ in range(G * C)])
 
 
 def readings_for(rng, unit):
