@@ -148,9 +148,9 @@ uint32_t wheeling_open(uint32_t generators, uint32_t consumers, uint32_t rate, u
  *   record     the unit's record, changed in place
  *   kw_list    GC numbers: entry kW of each pair, 0 where the link is 0; those of one generator add up to at most the lower
  *              of installed and contracted
- *   rank_list  GC numbers, 1 to 255: a consumer is served in rising rank, for equal ranks in falling kW of kw_list, for equal
- *              kW too in rising generator number. Blocks go by the schedule that stands when they are entered, the drawing
- *              of a closing by the one that stands at the closing
+ *   rank_list  GC numbers, 1 to 255: a consumer is served in rising rank; for equal ranks the larger kW of kw_list comes
+ *              first, then the lower generator number. A block goes by the schedule that stands when it is entered, the
+ *              drawing of a closing by the one that stands at the closing
  * Refuses with 1, 2, 7, 8, 9. */
 uint32_t wheeling_schedule(uint8_t *record, size_t record_bytes,
                            const uint8_t *kw_list, size_t kw_list_bytes,
