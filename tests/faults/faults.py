@@ -74,6 +74,16 @@ FAULTS = {
         "kW stored as ranks":
             ("put_list(s, *::RANK, ranks, n, m)", "put_list(s, *::RANK, kws, n, m)"),
     },
+    "order": {
+        "a rank's step below the highest kW":
+            ("RANK_STEP: u64 = 524_288", "RANK_STEP: u64 = 262_144"),
+        "kW of the next generator":
+            ("let kw = *::number_at(s, *::KW + g * 16 + c)",
+             "let kw = *::number_at(s, *::KW + (g + 1) % 8 * 16 + c)"),
+        "installed capacity in the place of the kW":
+            ("let kw = *::number_at(s, *::KW + g * 16 + c)",
+             "let kw = *::number_at(s, *::AGREED + 3 * g + 1)"),
+    },
     "block": {
         "reading limit one low": ("*::MOST_READING < ", "199_999_999 < "),
         "reading limit one high": ("*::MOST_READING < ", "200_000_001 < "),

@@ -360,7 +360,9 @@ static void open_unit(void)
 
 static void schedule(void)
 {
-    uint32_t G = generators(), C = consumers(), most_rank = 1 + next_byte() % 255;
+    uint32_t G = generators(), C = consumers();
+    /* Small ones of the first and large ones of the second make many pairs equal in rank and kW. */
+    uint32_t most_rank = 1 + next_byte() % 255, step = 1 + next_byte();
     random_state = next_number(2);
     for (uint32_t g = 0; g < G; g++) {
         uint64_t installed = stored(AT_AGREED + 3 * g + 1);
@@ -372,6 +374,7 @@ static void schedule(void)
             if (stored(AT_LINKS + MOST_CONSUMERS * g + c) == 1 && random_below(4) != 0)
                 kw = c + 1 == C ? (uint32_t)left : random_below((uint32_t)(2 * left / C + 1));
             kw = kw < left ? kw : (uint32_t)left;
+            kw -= kw % step;
             left -= kw;
             lists[0].numbers[g * C + c] = kw;
             lists[1].numbers[g * C + c] = 1 + random_below(most_rank);
