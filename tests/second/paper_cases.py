@@ -122,16 +122,16 @@ DAYS = {
 
 # ---- Bigger supplier first (F-2) ----
 
-def two_suppliers(kind, rate=0, switch_month=0):
-    """Two of one kind and one consumer, loss 0, either may have 40 or 60 kW."""
-    return open_call(2, 1, rate, 12, 0, (kind, 60, 60) * 2, (1, 1, 0, 0), switch_month)
+def two_suppliers(kind, switch_month=0):
+    """Two of one kind and one consumer, loss 0, charge rate 0; either may have 40 or 60 kW."""
+    return open_call(2, 1, 0, 12, 0, (kind, 60, 60) * 2, (1, 1, 0, 0), switch_month)
 
 
 FORTY_AND_SIXTY = schedule_call((40, 60), (1, 1))
 SIXTY_AND_FORTY = schedule_call((60, 40), (1, 1))
 # Two of wind: 10,000 Wh of each are left over, then 12,000 Wh are wanted.
-BOTH_BANKED = [two_suppliers(WIND), FORTY_AND_SIXTY, block_call((10_000,) * 2, (0,)),
-               block_call((0, 0), (12_000,))]
+BOTH_PENDING = [two_suppliers(WIND), FORTY_AND_SIXTY, block_call((10_000,) * 2, (0,)),
+                block_call((0, 0), (12_000,))]
 CLOSE_BOTH = close_call(2, 1)
 
 # A list of calls, all accepted, with what document 02 makes of the last one's output.
@@ -156,23 +156,23 @@ LARGER_FIRST = {
         [two_suppliers(SCHEDULED), FORTY_AND_SIXTY, block_call((4_000,) * 2, (20_000,))],
         {"set_off": [4_000, 4_000], "shortfall": [1_000, 11_000], "remainder": [0]}),
     "drawing from the larger": (
-        BOTH_BANKED + [CLOSE_BOTH],
+        BOTH_PENDING + [CLOSE_BOTH],
         {"drawn": [2_000, 10_000], "bank": [8_000, 0], "supplied": [0]}),
     "the schedule that stands at the closing": (
-        BOTH_BANKED + [SIXTY_AND_FORTY, CLOSE_BOTH],
+        BOTH_PENDING + [SIXTY_AND_FORTY, CLOSE_BOTH],
         {"drawn": [10_000, 2_000], "bank": [0, 8_000], "supplied": [0]}),
     "the ranks that stand at the closing": (
-        BOTH_BANKED + [schedule_call((40, 60), (1, 2)), CLOSE_BOTH],
+        BOTH_PENDING + [schedule_call((40, 60), (1, 2)), CLOSE_BOTH],
         {"drawn": [10_000, 2_000], "bank": [0, 8_000], "supplied": [0]}),
     "0 kW comes last among equals": (
-        BOTH_BANKED + [schedule_call((0, 1), (1, 1)), CLOSE_BOTH],
+        BOTH_PENDING + [schedule_call((0, 1), (1, 1)), CLOSE_BOTH],
         {"drawn": [2_000, 10_000], "bank": [8_000, 0]}),
     "equal kW: the lower number": (
-        BOTH_BANKED + [schedule_call((7, 7), (3, 3)), CLOSE_BOTH],
+        BOTH_PENDING + [schedule_call((7, 7), (3, 3)), CLOSE_BOTH],
         {"drawn": [10_000, 2_000], "bank": [0, 8_000]}),
     # Consumer 1 has 10 kW of generator 1, which has 100 kW in all and a capacity of 400, and 20 kW
-    # of generator 2. Of 25,000 Wh it gets 2,500 from the one and 5,000 from the other, and wants
-    # 6,000.
+    # of generator 2. It wants 6,000 Wh; for it are 2,500 of generator 1's 25,000 Wh, and all 5,000
+    # of generator 2's.
     "the kW of that pair": (
         [open_call(2, 2, 0, 12, 0, (SCHEDULED, 400, 400, SCHEDULED, 20, 20), (1,) * 4 + (0,) * 4),
          schedule_call((10, 90, 20, 0), (1,) * 4), block_call((25_000, 5_000), (6_000, 0))],

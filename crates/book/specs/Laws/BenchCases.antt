@@ -75,8 +75,8 @@ abbrev sixtyAndForty : Call
 sixtyAndForty = schedule (60 ∷ 40 ∷ []) (1 ∷ 1 ∷ [])
 
 -- of wind: 10,000 pending of each, 12,000 open
-abbrev bothBanked : Book
-bothBanked = bookAfter (opened (twoOfSixty 1)) (fortyAndSixty ∷ block (10_000 ∷ 10_000 ∷ []) (0 ∷ []) 11 ∷ block (0 ∷ 0 ∷ []) (12_000 ∷ []) 11 ∷ [])
+abbrev bothPending : Book
+bothPending = bookAfter (opened (twoOfSixty 1)) (fortyAndSixty ∷ block (10_000 ∷ 10_000 ∷ []) (0 ∷ []) 11 ∷ block (0 ∷ 0 ∷ []) (12_000 ∷ []) 11 ∷ [])
 
 -- ---- F-7
 
@@ -156,10 +156,10 @@ pub record BenchCases : Type 0 where
       bookAnswers (opened (twoOfSixty 0)) (fortyAndSixty ∷ block (4_000 ∷ 4_000 ∷ []) (12_000 ∷ []) 11 ∷ []) ≡
       accepted [] ∷ accepted (0 ∷ 0 ∷ 4_000 ∷ 4_000 ∷ 0 ∷ 0 ∷ 0 ∷ 4_000 ∷ 0 ∷ 0 ∷ 0 ∷ []) ∷ []
   -- drawing, of 9,000 each after the charge: 3,000 and 9,000
-  pub larger-drawn : bookAnswers bothBanked (closing 10 ∷ []) ≡ accepted (3_000 ∷ 9_000 ∷ 1_000 ∷ 1_000 ∷ 0 ∷ 0 ∷ 6_000 ∷ 0 ∷ 12_000 ∷ 0 ∷ []) ∷ []
+  pub larger-drawn : bookAnswers bothPending (closing 10 ∷ []) ≡ accepted (3_000 ∷ 9_000 ∷ 1_000 ∷ 1_000 ∷ 0 ∷ 0 ∷ 6_000 ∷ 0 ∷ 12_000 ∷ 0 ∷ []) ∷ []
   -- the schedule that stands at the closing counts: 60 and 40 kW after the blocks, 9,000 and 3,000
   pub drawn-by-the-last-schedule :
-      bookAnswers bothBanked (sixtyAndForty ∷ closing 10 ∷ []) ≡
+      bookAnswers bothPending (sixtyAndForty ∷ closing 10 ∷ []) ≡
       accepted [] ∷ accepted (9_000 ∷ 3_000 ∷ 1_000 ∷ 1_000 ∷ 0 ∷ 0 ∷ 0 ∷ 6_000 ∷ 12_000 ∷ 0 ∷ []) ∷ []
   -- P8: wind with no kW, E 500: unaccounted 500
   pub P8 :
