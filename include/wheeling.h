@@ -162,16 +162,16 @@ uint32_t wheeling_schedule(uint8_t *record, size_t record_bytes,
  *   entry_list  G numbers: what each generator fed in, 0 to 200,000,000 Wh
  *   exit_list   C numbers: what each consumer took, 0 to 200,000,000 Wh
  *   output      4GC + G + C numbers, in Wh: loss, set off, underdrawn and shortfall, each GC by pair; unaccounted, G by
- *               generator; remainder, C by consumer
+ *               generator; remainder, C by consumer. Each loss is rounded to the nearest Wh, halves up
  * Refuses with 1, 2, 10, 11, 12. */
 uint32_t wheeling_block(uint8_t *record, size_t record_bytes,
                         const uint8_t *entry_list, size_t entry_list_bytes,
                         const uint8_t *exit_list, size_t exit_list_bytes,
                         uint8_t *output, size_t output_bytes);
 
-/* Closes the month: banks what is pending less the charge, draws for the consumers from it, leaves the rest to be supplied
- * by the local licensee, and lets the bank lapse at the end of a cycle. The closing just before the switch month lets it lapse
- * in any case, and sets months gone to 0.
+/* Closes the month: banks what is pending less the charge, which is rounded up, draws for the consumers from it, leaves the
+ * rest to be supplied by the local licensee, and lets the bank lapse at the end of a cycle. The closing just before the switch
+ * month lets it lapse in any case, and sets months gone to 0.
  * From the switch month on it does so by classes of hours:
  *   - the charge is rounded up in each class, and the rest of the class's pending is banked in that class;
  *   - consumer after consumer settles what is open of it off-peak, then normal, then peak; within each of these one linked

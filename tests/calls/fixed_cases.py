@@ -14,8 +14,8 @@ from second.engine import (CLASS_LISTS, CLASS_TERMS, CLASSES, CONSUMER_PLACES, C
                            GENERATOR_PLACES, GENERATOR_TERMS, RECORD_BYTES, RECORD_FORM,
                            RECORD_WORDS, Engine, record_from_bytes, record_to_bytes,
                            sums_over_classes)
-from second.paper_cases import (CASES, DAYS, HOURS, HOURS_OPENINGS, LARGER_FIRST,
-                                REFUSAL_EXAMPLES, REFUSED_BETWEEN, with_counts)
+from second.paper_cases import (CASES, DAYS, HOURS, HOURS_OPENINGS, LARGER_FIRST, NEAREST_LOSS,
+                                REFUSAL_EXAMPLES, REFUSED_BETWEEN, one_pair, with_counts)
 
 KW_LIMIT = 400_000
 LOSS_LIMIT = 5_000
@@ -177,6 +177,60 @@ def schedules_within_a_month():
                       schedule_call(last, (1, 1)), block_call((9_000, 9_000), (3_000,)),
                       block_call((0, 0), (14_000,)), close_call(2, 1)]
         yield f"kW changed within each month, switch month {switch_month}", calls
+
+
+# ---- Loss to the nearest (F-3) ----
+
+def halves_of(rate, most):
+    """Energies up to most of which the rate takes a whole number and a half: the least and the
+    largest ones and one in the middle. A rate that 16 divides has none."""
+    least = next(energy for energy in range(1, 10_001) if energy * rate % 10_000 == 5_000)
+    # The others are its odd multiples.
+    last = (most // least - 1) // 2
+    return [least * (2 * at + 1) for at in (0, 1, last // 2, last - 1, last)]
+
+
+def loss_about_a_half():
+    """The part at a half, 1 Wh below and 1 Wh above; small and large, of a deemed kind, and of kind
+    0 as much as is scheduled."""
+    for rate in (1, 2, 3, 4, 7, 8, 19, 20, 47, 125, 500, 625, 999, 1_000, 1_001, 2_500, 2_900,
+                 3_333, 4_376, 4_999, 5_000):
+        for kind, most in ((1, READING_LIMIT), (0, READING_LIMIT // 2)):
+            parts = [half + more for half in halves_of(rate, most - 1) for more in (-1, 0, 1)]
+            yield f"loss of {rate:,} about a half, kind {kind}", (
+                one_pair(kind, rate, KW_LIMIT, 1_000)
+                + [block_call((part,), (part // 2,)) for part in parts] + [close_call(1, 1)])
+
+
+def loss_of_every_rate():
+    """Every rate from 0 to 5,000 in 40 agreements of 128 pairs. Each rate that gives halves does so
+    at one of the first four parts and at one of the last four."""
+    parts = (625, 1_250, 2_500, 5_000, 4_999, 5_001, 12_499_375, 12_498_750, 12_497_500, 12_495_000)
+    for first in range(0, LOSS_LIMIT + 1, 128):
+        losses = [min(rate, LOSS_LIMIT) for rate in range(first, first + 128)]
+        for kind in (1, 0):
+            opening = open_call(8, 16, 1, 12, 0, (kind, KW_LIMIT, KW_LIMIT) * 8, [1] * 128 + losses)
+            if kind == 1:  # rule 3: each of 16 consumers has a sixteenth
+                calls = [schedule_call([1] * 128, [1] * 128)]
+                calls += [block_call([16 * part] * 8, [4 * part] * 16) for part in parts]
+            else:  # rule 4: 1,250, 2,500 and 5,000 Wh scheduled, nothing or little delivered
+                calls = [call for kw in (5, 10, 20) for call in (
+                    schedule_call([kw] * 128, [1] * 128),
+                    block_call([0] * 8, [8 * 250 * kw] * 16),
+                    block_call([16 * 7] * 8, [5 * 250 * kw] * 16))]
+            yield f"losses from {first:,} on, kind {kind}", [opening, *calls, close_call(8, 16)]
+
+
+def charges_not_whole():
+    """F-3 leaves the charge: what is pending times the rate ends in every tenth, and just beside a
+    whole number."""
+    for switch_month in (0, 1):
+        for rate, pending in ((1_000, range(1, 21)), (1, (1, 4_999, 5_000, 5_001, 9_999, 10_001)),
+                              (4_999, (1, 2, 3)), (5_000, (1, 2, 3, 199_999_999))):
+            calls = one_pair(1, 0, rate=rate, switch_month=switch_month)
+            for energy in pending:
+                calls += [block_call((energy,), (0,)), close_call(1, 1)]
+            yield f"charges at {rate:,} not whole, switch month {switch_month}", calls
 
 
 def cycles():
@@ -1278,12 +1332,15 @@ def fixed_cases():
         yield name, calls
     for number, calls in REFUSAL_EXAMPLES.items():
         yield f"example of refusal {number}", calls
-    for what, (calls, _) in LARGER_FIRST.items():
-        yield f"F-2, {what}", calls
+    for request, cases in (("F-2", LARGER_FIRST), ("F-3", NEAREST_LOSS)):
+        for what, (calls, _) in cases.items():
+            yield f"{request}, {what}", calls
     yield "3 x 2 over four months", three_by_two()
     yield from orders()
     yield from orders_at_the_limits_of_kw()
     yield from schedules_within_a_month()
+    yield from loss_about_a_half()
+    yield from charges_not_whole()
     yield from cycles()
     yield from paper_hours()
     yield from switches()
@@ -1306,6 +1363,7 @@ def fixed_cases():
     yield from full_months()
     yield from long_months()
     yield from each_word_damaged()
+    yield from loss_of_every_rate()
     # Last, since they are many and a wrong rule shows before.
     yield from missing_in_unequal_blocks()
     yield from every_length(2, 3, b"\0")

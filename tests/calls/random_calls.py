@@ -107,8 +107,9 @@ def readings_for(rng, unit):
         total_kw = sum(unit.kw[g][:C])
         near = 250 * total_kw
         reading = min(READING_LIMIT, rng.choice((
-            magnitude(rng, READING_LIMIT), near, near + 1, max(near, 1) - 1,
-            int(near * rng.uniform(0, 1.5)), int(near * rng.uniform(0.5, 1.1)), 0)))
+            magnitude(rng, READING_LIMIT), READING_LIMIT - rng.randint(1, 9), near, near + 1,
+            max(near, 1) - 1, int(near * rng.uniform(0, 1.5)), int(near * rng.uniform(0.5, 1.1)),
+            0)))
         entry.append(reading)
         for c in range(C):
             if total_kw:

@@ -24,7 +24,7 @@ from second.engine import (ACCEPTED, CHECK_METER, CLASS_LISTS, CLASS_TERMS,  # n
                            CLASSES, CONSUMER_TERMS, GENERATOR_TERMS, MAIN_METER, MINI_HYDEL, NORMAL,
                            OFF_PEAK, PEAK, WH_PER_KW_IN_A_BLOCK, WHOLE, WIND, Engine,
                            inputs_from_bytes, outputs_to_bytes, record_from_bytes, record_to_bytes,
-                           rounded_up, sums_over_classes, taken_in_order)
+                           rounded_up, sums_over_classes, taken_in_order, to_the_nearest)
 
 WRONG_RULES = {}
 
@@ -293,7 +293,7 @@ class OutputTransposed(Engine):
         return super().block_output(*turned, unaccounted, remainder)
 
 
-# ---- Block ----
+# ---- Block: whose loss, and how it is rounded ----
 
 @wrong("losses of later generators wrong")
 class FirstGeneratorsLosses(Engine):
@@ -312,6 +312,117 @@ class LossRoundedDown(Engine):
     def loss(self, part, rate):
         return part * rate // WHOLE
 
+
+# ---- Block: loss to the nearest (F-3) ----
+
+@wrong("F-3: loss rounded up as before")
+class LossRoundedUp(Engine):
+    def loss(self, part, rate):
+        return rounded_up(part, rate)
+
+
+def halves_down(amount, rate):
+    """To the nearest, but for halves; as where what is delivered is rounded, halves up."""
+    whole, rest = divmod(amount * rate, WHOLE)
+    return whole + (2 * rest > WHOLE)
+
+
+@wrong("F-3: halves down")
+class HalvesDown(Engine):
+    def loss(self, part, rate):
+        return halves_down(part, rate)
+
+
+@wrong("F-3: halves to the even number")
+class HalvesToEven(Engine):
+    def loss(self, part, rate):
+        down = halves_down(part, rate)
+        return down if down % 2 == 0 else to_the_nearest(part, rate)
+
+
+@wrong("F-3: halves down of parts over 100,000,000")
+class LargeHalvesDown(Engine):
+    def loss(self, part, rate):
+        return halves_down(part, rate) if part > 100_000_000 else super().loss(part, rate)
+
+
+@wrong("F-3: loss by a fraction of the computer")
+class LossByFraction(Engine):
+    def loss(self, part, rate):
+        return int(part * (rate / WHOLE) + 0.5)
+
+
+@wrong("F-3: loss to the nearest of a generator's sum")
+class LossOfSum(Engine):
+    # What is lost of the parts so far, less what was lost of those before.
+    def block_rules(self, record, entry, exit):
+        self.exact = 0
+        return super().block_rules(record, entry, exit)
+
+    def counted(self, kind, entry, total_kw):
+        self.exact = 0
+        return super().counted(kind, entry, total_kw)
+
+    def loss(self, part, rate):
+        before = to_the_nearest(self.exact, 1)
+        self.exact += part * rate
+        return to_the_nearest(self.exact, 1) - before
+
+    def scheduled_at_exit(self, kind, kw, delivered, rate):
+        scheduled = WH_PER_KW_IN_A_BLOCK * kw
+        q = delivered if self.deemed(kind) else scheduled - to_the_nearest(scheduled, rate)
+        return max(q, delivered)
+
+
+@wrong("F-3: rule 4 still up")
+class ScheduleLossUp(Engine):
+    def scheduled_at_exit(self, kind, kw, delivered, rate):
+        if self.deemed(kind):
+            return delivered
+        scheduled = WH_PER_KW_IN_A_BLOCK * kw
+        # At its schedule more may be delivered by rule 3 than that.
+        return max(scheduled - rounded_up(scheduled, rate), delivered)
+
+
+@wrong("F-3: rule 3 still up")
+class PartLossUp(Engine):
+    def loss(self, part, rate):
+        return rounded_up(part, rate)
+
+    def scheduled_at_exit(self, kind, kw, delivered, rate):
+        scheduled = WH_PER_KW_IN_A_BLOCK * kw
+        return delivered if self.deemed(kind) else scheduled - to_the_nearest(scheduled, rate)
+
+
+@wrong("F-3: rule 4 with halves down")
+class ScheduleHalvesDown(Engine):
+    def scheduled_at_exit(self, kind, kw, delivered, rate):
+        scheduled = WH_PER_KW_IN_A_BLOCK * kw
+        return delivered if self.deemed(kind) else scheduled - halves_down(scheduled, rate)
+
+
+@wrong("F-3: charge to the nearest too")
+class ChargeToTheNearest(Engine):
+    def charge(self, record, g):
+        return to_the_nearest(record.pending[g], record.rate)
+
+    def class_charge(self, record, hours, g):
+        return to_the_nearest(record.of_class(hours, "pending")[g], record.rate)
+
+
+@wrong("F-3: charge to the nearest before the switch month")
+class FormerChargeToTheNearest(Engine):
+    def charge(self, record, g):
+        return to_the_nearest(record.pending[g], record.rate)
+
+
+@wrong("F-3: charge to the nearest by hours")
+class ClassChargeToTheNearest(Engine):
+    def class_charge(self, record, hours, g):
+        return to_the_nearest(record.of_class(hours, "pending")[g], record.rate)
+
+
+# ---- Block: the other rules ----
 
 @wrong("each part rounded by itself")
 class PartsByThemselves(Engine):

@@ -107,7 +107,11 @@ FAULTS = {
              "    if scheduled.0 == 0 {\n        return entry;"),
         "scheduled at exit without loss":
             ("scheduled.0 - lost.0 - delivered", "scheduled.0 - delivered"),
-        "loss to the nearest": ("rate + 9_999)", "rate + 5_000)"),
+        "loss with halves to the even number":
+            ("(x.0 * rate + 5_000) / 10_000",
+             "(x.0 * rate + 4_999 + x.0 * rate / 10_000 % 2) / 10_000"),
+        "product of the loss in 32 bits":
+            ("(x.0 * rate + 5_000) / 10_000", "(x.0 * rate % 4_294_967_296 + 5_000) / 10_000"),
         "running shares rounded up":
             ("let share = k * sum / all;", "let share = (k * sum + all - 1) / all;"),
         "shortfall is what is not used of it":

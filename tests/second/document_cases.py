@@ -1,5 +1,6 @@
 #!/usr/bin/env python3
-"""The source documents' own worked figures, by document 01's rules and F-7 on the second engine.
+"""The source documents' own worked figures, by document 01's rules as F-3 and F-7 changed them, on
+the second engine.
 
 Run as a script: prints each figure that differs and how many were checked; ends with 1 on a
 difference. The lists of calls are also run against the library (compare.py).
@@ -14,7 +15,7 @@ import sys
 sys.path.insert(0, os.path.dirname(os.path.dirname(os.path.abspath(__file__))))
 
 from second.engine import (NORMAL, OFF_PEAK, PEAK, SCHEDULED, SOLAR, Engine,  # noqa: E402
-                           rounded_up)
+                           to_the_nearest)
 from second.calls import block_call, close_call, open_call, schedule_call  # noqa: E402
 from second.paper_cases import Figures, Settled  # noqa: E402
 
@@ -146,7 +147,7 @@ LOWER_AT_EXIT = [1_166_667] * 16 + [1_166_666] * 8  # 28 MWh in six hours
 
 def entry_for(delivered):
     entry = delivered * 10_000 // (10_000 - LOSS_000)
-    while entry - rounded_up(entry, LOSS_000) < delivered:
+    while entry - to_the_nearest(entry, LOSS_000) < delivered:
         entry += 1
     return entry
 
@@ -219,13 +220,13 @@ def check_hours_month(figures, settled):
 
 
 def check_appendix_2(figures, settled):
-    """Where a printed figure is half a Wh beside a whole one, rule 3 rounds the loss up: half a Wh
-    less is delivered, and half a Wh more is lacking."""
+    """Where a printed figure is half a Wh beside a whole one, so is the loss, and halves go up:
+    half a Wh less is delivered, and half a Wh more is lacking."""
     full, less = settled["004, appendix 2 (A)"], settled["004, appendix 2 (B)"]
     for c, (allocated, rate) in enumerate(zip(ALLOCATED, LOSSES)):
         scheduled = 250 * allocated
         figures.equal(f"004, net capacity at exit of consumer {c + 1}",
-                      scheduled - rounded_up(scheduled, rate), energy(AT_EXIT[c]))
+                      scheduled - to_the_nearest(scheduled, rate), energy(AT_EXIT[c]))
         figures.equal(f"004 (A), by generator, consumer {c + 1}", full.set_off[c],
                       energy(BY_GENERATOR[c]))
         figures.equal(f"004 (A), by DISCOM, consumer {c + 1}", full.remainder[c],

@@ -1,6 +1,6 @@
 """The second engine: the energy account of one unit, from document 01; a day of a main and a check
-meter, the bigger supplier first and the bank by hours, from F-1, F-2 and F-7 of document 02; all as
-docs/DECISIONS.md reads them.
+meter, the bigger supplier first, loss to the nearest and the bank by hours, from F-1, F-2, F-3 and
+F-7 of document 02; all as docs/DECISIONS.md reads them.
 
 It is the measure for the proved engine, so it is written to be checked by eye against the paper:
 rules and steps stand in the paper's order under the paper's words. Energy is in whole watt-hours,
@@ -153,6 +153,12 @@ def outputs_to_bytes(numbers):
 def rounded_up(amount, rate):
     """amount x rate / 10,000, rounded up."""
     return (amount * rate + WHOLE - 1) // WHOLE
+
+
+def to_the_nearest(amount, rate):
+    """amount x rate / 10,000, to the nearest whole number, halves up."""
+    whole, rest = divmod(amount * rate, WHOLE)
+    return whole + 1 if 2 * rest >= WHOLE else whole
 
 
 def sums_over_classes(lists):
@@ -428,14 +434,16 @@ class Engine:
         return parts
 
     def loss(self, part, rate):
-        """Rule 3."""
-        return rounded_up(part, rate)
+        """Rule 3, by F-3: "The licensee now rounds loss to the nearest watt-hour, halves up,
+        instead of up."
+        """
+        return to_the_nearest(part, rate)
 
     def pair_loss_rate(self, record, g, c):
         return record.loss_rate[g][c]
 
     def scheduled_at_exit(self, kind, kw, delivered, rate):
-        """Rule 4."""
+        """Rule 4, "and rule 4 with it": its loss is that of rule 3."""
         if self.deemed(kind):
             return delivered
         scheduled = WH_PER_KW_IN_A_BLOCK * kw
@@ -551,7 +559,8 @@ class Engine:
     # ---- Closing a month ----
 
     def charge(self, record, g):
-        """Step 1: the charge in kind falls on what is pending, not on the bank."""
+        """Step 1: the charge in kind falls on what is pending, not on the bank. "The bank charge
+        still rounds up" (F-3)."""
         return rounded_up(record.pending[g], record.rate)
 
     def drawing_consumers(self, record):

@@ -1,7 +1,8 @@
 #!/usr/bin/env python3
 """Document 01's own figures, checked on the second engine: P1 to P10, the printed table, and the
-example of each refusal number; and what document 02 says of a day of two meters (F-1), of the
-bigger supplier (F-2) and of the bank by hours (F-7), computed by hand.
+example of each refusal number; P1 to P3, P9 and the table as document 02's F-3 has them worked out
+again. And what document 02 says of a day of two meters (F-1), of the bigger supplier (F-2), of the
+loss (F-3) and of the bank by hours (F-7), computed by hand.
 
 Run as a script: prints each figure that differs and how many were checked; ends with 1 on a
 difference. The lists of calls are also run against the library (compare.py).
@@ -40,7 +41,7 @@ CASES = {
     "P6": [TWO_OF_KIND_0, schedule_call((40, 40), (2, 1)), block_call((10_000,) * 2, (12_000,))],
     "P7": [TWO_OF_KIND_0, schedule_call((40, 40), (1, 1)), block_call((10_000,) * 2, (12_000,))],
     "P8": [open_call(1, 1, 0, 1, 0, (WIND, 1_000, 800), (1, 0)), block_call((500,), (0,))],
-    "P9": [open_call(1, 1, 0, 1, 0, (WIND, 1_000, 800), (1, 1_000)), schedule_call((1,), (1,)),
+    "P9": [open_call(1, 1, 0, 1, 0, (WIND, 1_000, 800), (1, 1)), schedule_call((1,), (1,)),
            block_call((1,), (5,))],
     "P10": [open_call(3, 1, 0, 1, 0,
                       (SCHEDULED, 20_000, 20_000, SCHEDULED, 44_000, 44_000,
@@ -181,6 +182,85 @@ LARGER_FIRST = {
         [two_suppliers(WIND, switch_month=1), FORTY_AND_SIXTY, block_call((10, 10), (0,)),
          block_call((0, 0), (12,)), CLOSE_BOTH],
         {"drawn": [2, 10], "lapsed": [8, 0], "supplied": [0]}),
+}
+
+
+# ---- Loss to the nearest (F-3) ----
+
+def one_pair(kind, loss, kw=1, rate=0, switch_month=0):
+    """One generator and one consumer: its part is all that counts."""
+    return [open_call(1, 1, rate, 12, 0, (kind, 400_000, 400_000), (1, loss), switch_month),
+            schedule_call((kw,), (1,))]
+
+
+def lost(entry, loss):
+    """What wind of this loss rate injects, while nothing is metered: what is delivered is
+    underdrawn."""
+    return one_pair(WIND, loss) + [block_call((entry,), (0,))]
+
+
+def short(kw, loss, metered):
+    """Kind 0 injects nothing: the shortfall is what is scheduled at exit."""
+    return one_pair(SCHEDULED, loss, kw) + [block_call((0,), (metered,))]
+
+
+# A list of calls, all accepted, with what document 02 makes of the last one's output.
+NEAREST_LOSS = {
+    # 1 Wh: 0.5 is a half and goes up, as P9 was before; 0.4999 goes down.
+    "half of 1 Wh": (lost(1, 5_000), {"loss": [1], "underdrawn": [0]}),
+    "less than half of 1 Wh": (lost(1, 4_999), {"loss": [0], "underdrawn": [1]}),
+    # 1.5 and 2.5 both go up: to the nearest even number it would be 2 and 2.
+    "half of 3 Wh": (lost(3, 5_000), {"loss": [2], "underdrawn": [1]}),
+    "half of 5 Wh": (lost(5, 5_000), {"loss": [3], "underdrawn": [2]}),
+    # A tenth: 0.4, 0.5 and 0.6.
+    "a tenth of 4 Wh": (lost(4, 1_000), {"loss": [0], "underdrawn": [4]}),
+    "a tenth of 5 Wh": (lost(5, 1_000), {"loss": [1], "underdrawn": [4]}),
+    "a tenth of 6 Wh": (lost(6, 1_000), {"loss": [1], "underdrawn": [5]}),
+    # The lowest rate: 4,999 x 1 and 5,000 x 1 ten-thousandths.
+    "4,999 Wh at the lowest rate": (lost(4_999, 1), {"loss": [0], "underdrawn": [4_999]}),
+    "5,000 Wh at the lowest rate": (lost(5_000, 1), {"loss": [1], "underdrawn": [4_999]}),
+    # Large parts: 19,999,999.4, 19,999,999.5 and 99,999,999.5. The last one at 4,999 is
+    # 99,979,999.5001.
+    "a tenth of 199,999,994 Wh": (
+        lost(199_999_994, 1_000), {"loss": [19_999_999], "underdrawn": [179_999_995]}),
+    "a tenth of 199,999,995 Wh": (
+        lost(199_999_995, 1_000), {"loss": [20_000_000], "underdrawn": [179_999_995]}),
+    "half of 199,999,999 Wh": (
+        lost(199_999_999, 5_000), {"loss": [100_000_000], "underdrawn": [99_999_999]}),
+    "199,999,999 Wh at 4,999": (
+        lost(199_999_999, 4_999), {"loss": [99_980_000], "underdrawn": [100_019_999]}),
+    # 29 % of 50 Wh is 14.5. A computer's fraction for 0.29 is below it, and so would be 14.5.
+    "29 % of 50 Wh": (lost(50, 2_900), {"loss": [15], "underdrawn": [35]}),
+    # Two consumers, 1 Wh each: 1 is lost of either. On their sum it would be 1 for both.
+    "each pair by itself": (
+        [open_call(1, 2, 0, 12, 0, (WIND, 9, 9), (1, 1, 5_000, 5_000)),
+         schedule_call((1, 1), (1, 1)), block_call((2,), (0, 0))],
+        {"loss": [1, 1], "underdrawn": [0, 0]}),
+
+    # Rule 4. 1 kW is 250 Wh: at 19 the loss is 0.475, at 20 it is 0.5.
+    "scheduled at exit, below a half": (
+        short(1, 19, 300), {"shortfall": [250], "remainder": [50]}),
+    "scheduled at exit, a half": (short(1, 20, 300), {"shortfall": [249], "remainder": [51]}),
+    # 400,000 kW are 100,000,000 Wh: no half there, so 399,999 kW, 99,999,750 Wh: 4,999,987.5.
+    "scheduled at exit, a half of many": (
+        short(399_999, 500, 200_000_000),
+        {"shortfall": [94_999_762], "remainder": [105_000_238]}),
+    # At its schedule a generator is not short, whatever was lost.
+    "at the schedule nothing is short": (
+        one_pair(SCHEDULED, 19) + [block_call((250,), (300,))],
+        {"loss": [0], "set_off": [250], "shortfall": [0], "remainder": [50]}),
+
+    # The charge still rounds up: 10 % of 11 Wh is 1.1, and 2 are charged.
+    "charge of 1.1": (
+        one_pair(WIND, 0, rate=1_000) + [block_call((11,), (0,)), close_call(1, 1)],
+        {"charge": [2], "bank": [9]}),
+    "charge of 0.0001": (
+        one_pair(WIND, 0, rate=1) + [block_call((1,), (0,)), close_call(1, 1)],
+        {"charge": [1], "bank": [0]}),
+    "charge of 1.1 by hours": (
+        one_pair(WIND, 0, rate=1_000, switch_month=1)
+        + [block_call((11,), (0,)), close_call(1, 1)],
+        {"charge": [2], "lapsed": [9]}),
 }
 
 
@@ -424,16 +504,16 @@ def check_bench_cases(figures, engine):
     equal = figures.equal
 
     equal("P1 parts", engine.parts(70_001, [100, 200]), [23_333, 46_668])
-    equal("P1 losses", settled["P1"].loss, [2_334, 2_334])
-    equal("P1 remainders", settled["P1"].remainder, [0, 15_666])
+    equal("P1 losses", settled["P1"].loss, [2_333, 2_333])
+    equal("P1 remainders", settled["P1"].remainder, [0, 15_665])
 
     before_closing = Settled(CASES["P2"][:-1], engine)
-    equal("P2 pending", before_closing.record.pending[0], 23_999)
+    equal("P2 pending", before_closing.record.pending[0], 24_000)
     equal("P2 charge", settled["P2"].charge, [2_400])
-    equal("P2 drawn", settled["P2"].drawn, [0, 15_666])
-    equal("P2 bank", settled["P2"].bank, [5_933])
+    equal("P2 drawn", settled["P2"].drawn, [0, 15_665])
+    equal("P2 bank", settled["P2"].bank, [5_935])
 
-    equal("P3 lapsed", settled["P3"].lapsed, [5_933])
+    equal("P3 lapsed", settled["P3"].lapsed, [5_935])
     equal("P3 bank", settled["P3"].bank, [0])
 
     equal("P4 set off", settled["P4"].set_off, [6_300])
@@ -449,8 +529,8 @@ def check_bench_cases(figures, engine):
     equal("P8 unaccounted", settled["P8"].unaccounted, [500])
 
     equal("P9 part", engine.parts(1, [1]), [1])
-    equal("P9 loss", settled["P9"].loss, [1])
-    equal("P9 delivered", [settled["P9"].set_off[0] + settled["P9"].underdrawn[0]], [0])
+    equal("P9 loss", settled["P9"].loss, [0])
+    equal("P9 delivered", [settled["P9"].set_off[0] + settled["P9"].underdrawn[0]], [1])
 
     equal("P10 remainder", settled["P10"].remainder, [38_000_000])
 
@@ -458,7 +538,7 @@ def check_bench_cases(figures, engine):
 def check_printed_table(figures):
     text = b"E1,R1,R2\n70001,20000,60000\n30000,5000,0\n"
     printed = (b"generator,injected,unaccounted,loss,setoff,inadvertent,charge,drawn,lapsed,"
-               b"bank,pending\n1,100001,0,6668,69334,0,2400,15666,0,5933,0\n")
+               b"bank,pending\n1,100001,0,6666,69335,0,2400,15665,0,5935,0\n")
     figures.equal("printed table", table.wheel_output(text), printed)
     figures.equal("value lines read", table.read_table(1, 2, text, 10_080)[2], 2)
 
@@ -586,6 +666,7 @@ def main():
     check_refusals(figures, engine)
     check_days(figures, engine)
     check_accepted(figures, engine, "F-2", LARGER_FIRST)
+    check_accepted(figures, engine, "F-3", NEAREST_LOSS)
     check_hours(figures, engine)
     check_reader_edges(figures)
     for line in figures.wrong:

@@ -37,7 +37,11 @@ def of_length(size):
 # What is printed where document 01 fixes it.
 FIXED = (
     ("the paper's example", NAMES + b"70001,20000,60000\n30000,5000,0\n",
-     HEADING + b"1,100001,0,6668,69334,0,2400,15666,0,5933,0\n"),
+     HEADING + b"1,100001,0,6666,69335,0,2400,15665,0,5935,0\n"),
+    # Parts 5 and 10: 10 % and 5 % are half a Wh each, and 1 is lost of either. 13 are pending, and
+    # the charge of 1.3 is 2.
+    ("halves of a loss, and a charge that is not whole", NAMES + b"15,0,0\n",
+     HEADING + b"1,15,0,2,0,0,2,0,0,11,0\n"),
     ("a zero block", NAMES + b"0,0,0\n", HEADING + b"1,0,0,0,0,0,0,0,0,0,0\n"),
     ("no value lines", NAMES, refused(13)),
     ("empty input", b"", refused(14)),

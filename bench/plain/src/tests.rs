@@ -243,12 +243,12 @@ fn p1_first_line_of_agreement_a() {
     assert_eq!(
         block,
         Block {
-            loss: vec![2_334, 2_334],
-            set_off: vec![20_000, 44_334],
-            underdrawn: vec![999, 0],
+            loss: vec![2_333, 2_333],
+            set_off: vec![20_000, 44_335],
+            underdrawn: vec![1_000, 0],
             shortfall: vec![0, 0],
             unaccounted: vec![0],
-            remainder: vec![0, 15_666],
+            remainder: vec![0, 15_665],
         }
     );
     let part = |c: usize| block.loss[c] + block.set_off[c] + block.underdrawn[c];
@@ -260,15 +260,15 @@ fn p2_and_p3_closings_of_agreement_a() {
     let mut unit = Unit::a();
     unit.block(&[70_001], &[20_000, 60_000]);
     unit.block(&[30_000], &[5_000, 0]);
-    assert_eq!(unit.record().by_generator.pending[0].get(), 23_999);
+    assert_eq!(unit.record().by_generator.pending[0].get(), 24_000);
     assert_eq!(
         unit.close(),
         Closing {
-            drawn: vec![0, 15_666],
+            drawn: vec![0, 15_665],
             charge: vec![2_400],
             lapsed: vec![0],
-            bank: vec![5_933],
-            open: vec![0, 15_666],
+            bank: vec![5_935],
+            open: vec![0, 15_665],
             supplied: vec![0, 0],
         }
     );
@@ -287,12 +287,12 @@ fn p2_and_p3_closings_of_agreement_a() {
     ];
     assert_eq!(
         equation.map(|run| run[0].get()),
-        [100_001, 0, 6_668, 69_334, 0, 2_400, 15_666, 0, 5_933, 0]
+        [100_001, 0, 6_666, 69_335, 0, 2_400, 15_665, 0, 5_935, 0]
     );
 
     unit.block(&[0], &[0, 0]);
     let closing = unit.close();
-    assert_eq!((closing.lapsed, closing.bank), (vec![5_933], vec![0]));
+    assert_eq!((closing.lapsed, closing.bank), (vec![5_935], vec![0]));
     assert_eq!(unit.record().months_gone.get(), 0);
 }
 
@@ -361,13 +361,47 @@ fn p8_no_kw_scheduled() {
 }
 
 #[test]
-fn p9_loss_takes_the_whole_part() {
+fn p9_loss_below_half_a_watt_hour() {
     let unit = Agreement::to_one_consumer(&[1], &[1], &[1]).opened();
     let block = unit.scheduled(&[1], &[1]).block(&[1], &[1]);
     assert_eq!(
         (block.loss, block.set_off, block.underdrawn),
-        (vec![1], vec![0], vec![0])
+        (vec![0], vec![1], vec![0])
     );
+}
+
+#[test]
+fn f3_loss_to_the_nearest_halves_up() {
+    let loss = |rate, part| {
+        let unit = Agreement::to_one_consumer(&[1], &[1], &[rate]).opened();
+        unit.scheduled(&[1], &[1]).block(&[part], &[0]).loss[0]
+    };
+    assert_eq!([1, 2, 3, 5].map(|part| loss(5_000, part)), [1, 1, 2, 3]);
+    assert_eq!(loss(4_999, 1), 0);
+    assert_eq!([4, 5, 14, 15].map(|part| loss(1_000, part)), [0, 1, 1, 2]);
+    assert_eq!(loss(5_000, 199_999_999), 100_000_000);
+    assert_eq!(loss(1_000, 199_999_994), 19_999_999);
+}
+
+#[test]
+fn f3_scheduled_at_exit_by_the_same_loss() {
+    // 1 kW is 250 Wh: a loss of 0.475 and of 0.5.
+    let short = |rate| {
+        let unit = Agreement::to_one_consumer(&[0], &[1], &[rate]).opened();
+        unit.scheduled(&[1], &[1]).block(&[0], &[300]).shortfall[0]
+    };
+    assert_eq!((short(19), short(20)), (250, 249));
+}
+
+#[test]
+fn f3_the_charge_is_still_rounded_up() {
+    let agreement = Agreement {
+        rate: 1_000,
+        ..Agreement::to_one_consumer(&[1], &[1], &[0])
+    };
+    let mut unit = agreement.opened().scheduled(&[1], &[1]);
+    unit.block(&[11], &[0]);
+    assert_eq!(unit.close().charge, [2]);
 }
 
 #[test]

@@ -88,7 +88,7 @@ struct Lossy {
     rate: u64,
 }
 
-// The loss is taken on the pair's own part of this block. Taken on a sum of several, and so rounded up once for all, it would be another.
+// The loss is taken on the pair's own part of this block. Taken on a sum of several, and so rounded once for all, it would be another.
 fn lossy_at(s: &[u8], g: usize, c: usize, part: u32) -> Lossy
     requires { ⌜ (length (now s) ≡ recordBytes) × ((g < 8) × (c < 16)) ⌝ }
     ensures { λ r. ⌜ (r .energy .0 ≡ part) × (r .rate ≡ planIn (now (s .entry)) .loss g c) ⌝ }

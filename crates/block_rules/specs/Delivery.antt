@@ -1,4 +1,5 @@
--- Document 01, "Block": rules 1 to 4, what the entry reading of one generator delivers. Assumes nothing.
+-- Document 01, "Block": rules 1 to 4, what the entry reading of one generator delivers; the loss of rule 3, "and rule 4 with it", is that of
+-- document 02, F-3. Assumes nothing.
 use Prim.Native.Nat.{ℕ, _-_, min}
 use lib.Dec.{eqb}
 use Rattle.lists.specs.Choice.{if_then_else_}

@@ -1,4 +1,4 @@
-// Capacity and energy, and the loss of a pair.
+// Capacity and energy, the loss of a pair and the bank's charge.
 ghost use mathlib.Core.Path.{_≡_};
 ghost use Rattle.energy.specs.Energy.{quarterHour, portionUp, lossOn};
 ghost use Rattle.energy.specs.Laws.Portionable.{Portionable};
@@ -23,7 +23,7 @@ impl Kw {
     }
 }
 
-// Hundredths of a percent of x, rounded up: the loss of a pair and the bank's charge.
+// The bank's charge: hundredths of a percent of x, rounded up.
 pub fn portion_up(x: Wh, rate: u64) -> Wh
     requires { ⌜ Portionable (x .0) rate ⌝ }
     ensures { λ r. ⌜ r .0 ≡ portionUp (x .0) rate ⌝ }
@@ -31,10 +31,10 @@ pub fn portion_up(x: Wh, rate: u64) -> Wh
     Wh((x.0 * rate + 9_999) / 10_000)
 }
 
-// Rule 3 of a block.
+// Rule 3 of a block: hundredths of a percent of x, to the nearest, halves up.
 pub fn loss(x: Wh, rate: u64) -> Wh
     requires { ⌜ Portionable (x .0) rate ⌝ }
     ensures { λ r. ⌜ r .0 ≡ lossOn (x .0) rate ⌝ }
 {
-    portion_up(x, rate)
+    Wh((x.0 * rate + 5_000) / 10_000)
 }

@@ -1,5 +1,5 @@
--- Document 01, "Bench cases": P1 to P10, every figure that the paper gives, and cases of document 02's F-2 and F-7, as one theorem on the rules.
--- Assumes nothing.
+-- Document 01, "Bench cases": P1 to P10, every figure that the paper gives, P1 to P3 and P9 worked out again for document 02's F-3; and cases of
+-- document 02's F-2, F-3 and F-7, as one theorem on the rules. Assumes nothing.
 use Prim.Native.Nat.{ℕ, _+_}
 use mathlib.Core.Bool.{true, false, _&&_}
 use mathlib.Core.List.{List, [], _∷_, _++_, map}
@@ -46,9 +46,9 @@ zeroBlock = block (0 ∷ []) (0 ∷ 0 ∷ []) 11
 unfoldable pub oneConsumer : ℕ → List ℕ → List ℕ → Opening
 oneConsumer n generators losses = record { G = n; C = 1; rate = 1_000; cycle = 2; gone = 0; switch = 0; generators = generators; pairs = table n (λ g. 1) ++ losses }
 
--- P4 and P5: kind 0, one consumer, 40 kW, loss 1,000
-unfoldable pub oneScheduled : Opening
-oneScheduled = oneConsumer 1 (0 ∷ 40 ∷ 40 ∷ []) (1_000 ∷ [])
+-- P4 and P5: kind 0, one consumer, 40 kW, at a loss of 1,000
+unfoldable pub oneScheduled : ℕ → Opening
+oneScheduled loss = oneConsumer 1 (0 ∷ 40 ∷ 40 ∷ []) (loss ∷ [])
 
 -- P6 and P7: two of kind 0, loss 0
 unfoldable pub twoScheduled : Opening
@@ -61,6 +61,10 @@ wind loss = oneConsumer 1 (1 ∷ 40 ∷ 40 ∷ []) (loss ∷ [])
 -- P10: document 003, slot 50
 unfoldable pub slot50 : Opening
 slot50 = oneConsumer 3 (0 ∷ 20_000 ∷ 20_000 ∷ 0 ∷ 44_000 ∷ 44_000 ∷ 3 ∷ 320_000 ∷ 320_000 ∷ []) (0 ∷ 0 ∷ 1_000 ∷ [])
+
+-- one pair's kW
+abbrev scheduleOne : ℕ → Call
+scheduleOne kw = schedule (kw ∷ []) (1 ∷ [])
 
 -- ---- F-2
 
@@ -77,6 +81,12 @@ sixtyAndForty = schedule (60 ∷ 40 ∷ []) (1 ∷ 1 ∷ [])
 -- of wind: 10,000 pending of each, 12,000 open
 abbrev bothPending : Book
 bothPending = bookAfter (opened (twoOfSixty 1)) (fortyAndSixty ∷ block (10_000 ∷ 10_000 ∷ []) (0 ∷ []) 11 ∷ block (0 ∷ 0 ∷ []) (12_000 ∷ []) 11 ∷ [])
+
+-- ---- F-3
+
+-- of a reading of wind with this loss rate and one consumer: the loss, and what is delivered
+abbrev lostAndDelivered : ℕ → ℕ → List ℕ
+lostAndDelivered loss e = let p = bookAfter (opened (wind loss)) (scheduleOne 1 ∷ []) .plan in lossOf p 0 e 0 ∷ delivered p 0 e 0 ∷ []
 
 -- ---- F-7
 
@@ -97,48 +107,49 @@ twoMonths = linesA ++ (closing 9 ∷ linesA)
 pub record BenchCases : Type 0 where
   -- no number applies to any of these openings
   pub all-opened :
-      openingRefusal agreementA + openingRefusal oneScheduled + openingRefusal twoScheduled + openingRefusal (wind 0) + openingRefusal (wind 1) + openingRefusal slot50 +
-      openingRefusal (twoOfSixty 0) + openingRefusal (twoOfSixty 1) ≡
+      openingRefusal agreementA + openingRefusal (oneScheduled 1_000) + openingRefusal twoScheduled + openingRefusal (wind 0) + openingRefusal (wind 1) +
+      openingRefusal slot50 + openingRefusal (twoOfSixty 0) + openingRefusal (twoOfSixty 1) +
+      openingRefusal (wind 5_000) + openingRefusal (wind 4_999) + openingRefusal (wind 1_000) + openingRefusal (oneScheduled 19) + openingRefusal (oneScheduled 20) ≡
       0
   -- F-7: agreement A has switch month 0, so no closing of it goes by hours
   pub never-by-hours : (closings : ℕ) → hoursApply (agreementA .switch) closings ≡ false
-  -- P1: parts 23,333 and 46,668, losses 2,334 each, remainders 0 and 15,666
+  -- P1: parts 23,333 and 46,668, losses 2,333 each (2,333.3 and 2,333.4), remainders 0 and 15,665
   pub P1-parts : table 2 (partOf (bookAfter (opened agreementA) (scheduleA ∷ []) .plan) 0 70_001) ≡ 23_333 ∷ 46_668 ∷ []
   pub P1 :
       bookAnswers (opened agreementA) (scheduleA ∷ firstLine ∷ []) ≡
-      accepted [] ∷ accepted (2_334 ∷ 2_334 ∷ 20_000 ∷ 44_334 ∷ 999 ∷ 0 ∷ 0 ∷ 0 ∷ 0 ∷ 0 ∷ 15_666 ∷ []) ∷ []
-  -- P2: pending 23,999; charge 2,400, drawn 15,666, bank 5,933; and the printed line
-  pub P2-pending : bookAfter (opened agreementA) (scheduleA ∷ firstLine ∷ secondLine ∷ []) .gen 0 .pending ≡ 23_999
-  -- P3: a zero block and a second closing: 5,933 lapse
+      accepted [] ∷ accepted (2_333 ∷ 2_333 ∷ 20_000 ∷ 44_335 ∷ 1_000 ∷ 0 ∷ 0 ∷ 0 ∷ 0 ∷ 0 ∷ 15_665 ∷ []) ∷ []
+  -- P2: pending 24,000; charge 2,400, drawn 15,665, bank 5,935; and the printed line
+  pub P2-pending : bookAfter (opened agreementA) (scheduleA ∷ firstLine ∷ secondLine ∷ []) .gen 0 .pending ≡ 24_000
+  -- P3: a zero block and a second closing: 5,935 lapse
   pub P2-P3 :
       bookAnswers (bookAfter (opened agreementA) (scheduleA ∷ firstLine ∷ secondLine ∷ [])) (closing 9 ∷ zeroBlock ∷ closing 9 ∷ []) ≡
-      accepted (0 ∷ 15_666 ∷ 2_400 ∷ 0 ∷ 5_933 ∷ 0 ∷ 15_666 ∷ 0 ∷ 0 ∷ []) ∷
+      accepted (0 ∷ 15_665 ∷ 2_400 ∷ 0 ∷ 5_935 ∷ 0 ∷ 15_665 ∷ 0 ∷ 0 ∷ []) ∷
       accepted (0 ∷ 0 ∷ 0 ∷ 0 ∷ 0 ∷ 0 ∷ 0 ∷ 0 ∷ 0 ∷ 0 ∷ 0 ∷ []) ∷
-      accepted (0 ∷ 0 ∷ 0 ∷ 5_933 ∷ 0 ∷ 0 ∷ 0 ∷ 0 ∷ 0 ∷ []) ∷
+      accepted (0 ∷ 0 ∷ 0 ∷ 5_935 ∷ 0 ∷ 0 ∷ 0 ∷ 0 ∷ 0 ∷ []) ∷
       []
   pub printed :
       bookAfter (opened agreementA) (scheduleA ∷ firstLine ∷ secondLine ∷ closing 9 ∷ []) .gen 0 ≡
       record {
         injected = 100_001;
         unaccounted = 0;
-        lost = 6_668;
-        setoff = 69_334;
+        lost = 6_666;
+        setoff = 69_335;
         inadvertent = 0;
         charge = 2_400;
-        drawn = 15_666;
+        drawn = 15_665;
         lapsed = 0;
-        bank = 5_933;
+        bank = 5_935;
         pending = 0;
       }
   -- P4: E 7,000, R 10,000: set off 6,300, shortfall 2,700, remainder 1,000
   pub P4 :
-      bookAnswers (opened oneScheduled) (schedule (40 ∷ []) (1 ∷ []) ∷ block (7_000 ∷ []) (10_000 ∷ []) 6 ∷ []) ≡
+      bookAnswers (opened (oneScheduled 1_000)) (scheduleOne 40 ∷ block (7_000 ∷ []) (10_000 ∷ []) 6 ∷ []) ≡
       accepted [] ∷ accepted (700 ∷ 6_300 ∷ 0 ∷ 2_700 ∷ 0 ∷ 1_000 ∷ []) ∷ []
   -- P5: E 12,000, R 4,000: unaccounted 2,000, inadvertent 5,000
   pub P5 :
-      bookAnswers (opened oneScheduled) (schedule (40 ∷ []) (1 ∷ []) ∷ block (12_000 ∷ []) (4_000 ∷ []) 6 ∷ []) ≡
+      bookAnswers (opened (oneScheduled 1_000)) (scheduleOne 40 ∷ block (12_000 ∷ []) (4_000 ∷ []) 6 ∷ []) ≡
       accepted [] ∷ accepted (1_000 ∷ 4_000 ∷ 5_000 ∷ 0 ∷ 2_000 ∷ 0 ∷ []) ∷ []
-  pub P5-inadvertent : bookAfter (opened oneScheduled) (schedule (40 ∷ []) (1 ∷ []) ∷ block (12_000 ∷ []) (4_000 ∷ []) 6 ∷ []) .gen 0 .inadvertent ≡ 5_000
+  pub P5-inadvertent : bookAfter (opened (oneScheduled 1_000)) (scheduleOne 40 ∷ block (12_000 ∷ []) (4_000 ∷ []) 6 ∷ []) .gen 0 .inadvertent ≡ 5_000
   -- P6: 40 kW and E 10,000 each, R 12,000, ranks 2, 1: set off 2,000 and 10,000
   pub P6 :
       bookAnswers (opened twoScheduled) (schedule (40 ∷ 40 ∷ []) (2 ∷ 1 ∷ []) ∷ block (10_000 ∷ 10_000 ∷ []) (12_000 ∷ []) 11 ∷ []) ≡
@@ -163,14 +174,31 @@ pub record BenchCases : Type 0 where
       accepted [] ∷ accepted (9_000 ∷ 3_000 ∷ 1_000 ∷ 1_000 ∷ 0 ∷ 0 ∷ 0 ∷ 6_000 ∷ 12_000 ∷ 0 ∷ []) ∷ []
   -- P8: wind with no kW, E 500: unaccounted 500
   pub P8 :
-      bookAnswers (opened (wind 0)) (schedule (0 ∷ []) (1 ∷ []) ∷ block (500 ∷ []) (0 ∷ []) 6 ∷ []) ≡
+      bookAnswers (opened (wind 0)) (scheduleOne 0 ∷ block (500 ∷ []) (0 ∷ []) 6 ∷ []) ≡
       accepted [] ∷ accepted (0 ∷ 0 ∷ 0 ∷ 0 ∷ 500 ∷ 0 ∷ []) ∷ []
-  -- P9: p = 1, loss 1: d = 0
+  -- P9: p = 1, loss 1: 0.0001 is no watt-hour to the nearest, so d = 1
   pub P9 :
-      bookAnswers (opened (wind 1)) (schedule (1 ∷ []) (1 ∷ []) ∷ block (1 ∷ []) (0 ∷ []) 6 ∷ []) ≡
-      accepted [] ∷ accepted (1 ∷ 0 ∷ 0 ∷ 0 ∷ 0 ∷ 0 ∷ []) ∷ []
-  pub P9-part : partOf (bookAfter (opened (wind 1)) (schedule (1 ∷ []) (1 ∷ []) ∷ []) .plan) 0 1 0 ≡ 1
-  pub P9-delivered : delivered (bookAfter (opened (wind 1)) (schedule (1 ∷ []) (1 ∷ []) ∷ []) .plan) 0 1 0 ≡ 0
+      bookAnswers (opened (wind 1)) (scheduleOne 1 ∷ block (1 ∷ []) (0 ∷ []) 6 ∷ []) ≡
+      accepted [] ∷ accepted (0 ∷ 0 ∷ 1 ∷ 0 ∷ 0 ∷ 0 ∷ []) ∷ []
+  pub P9-part : partOf (bookAfter (opened (wind 1)) (scheduleOne 1 ∷ []) .plan) 0 1 0 ≡ 1
+  pub P9-delivered : delivered (bookAfter (opened (wind 1)) (scheduleOne 1 ∷ []) .plan) 0 1 0 ≡ 1
+  -- F-3: halves go up, of small and of large parts
+  pub half-up :
+      map (lostAndDelivered 5_000) (1 ∷ 3 ∷ 5 ∷ 199_999_999 ∷ []) ≡
+      (1 ∷ 0 ∷ []) ∷ (2 ∷ 1 ∷ []) ∷ (3 ∷ 2 ∷ []) ∷ (100_000_000 ∷ 99_999_999 ∷ []) ∷ []
+  -- what is below a half goes down: 0.4999; 0.4 beside 0.5, 19,999,999.4 beside 19,999,999.5
+  pub below-half-down : lostAndDelivered 4_999 1 ≡ 0 ∷ 1 ∷ []
+  pub tenths :
+      map (lostAndDelivered 1_000) (4 ∷ 5 ∷ 199_999_994 ∷ 199_999_995 ∷ []) ≡
+      (0 ∷ 4 ∷ []) ∷ (1 ∷ 4 ∷ []) ∷ (19_999_999 ∷ 179_999_995 ∷ []) ∷ (20_000_000 ∷ 179_999_995 ∷ []) ∷ []
+  -- rule 4 with it, of 1 kW and E 0: at 19 the loss on 250 is 0.475, and 250 are short; at 20 it is 0.5, and 249 are
+  pub at-exit-below-half :
+      bookAnswers (opened (oneScheduled 19)) (scheduleOne 1 ∷ block (0 ∷ []) (300 ∷ []) 6 ∷ []) ≡ accepted [] ∷ accepted (0 ∷ 0 ∷ 0 ∷ 250 ∷ 0 ∷ 50 ∷ []) ∷ []
+  pub at-exit-half :
+      bookAnswers (opened (oneScheduled 20)) (scheduleOne 1 ∷ block (0 ∷ []) (300 ∷ []) 6 ∷ []) ≡ accepted [] ∷ accepted (0 ∷ 0 ∷ 0 ∷ 249 ∷ 0 ∷ 51 ∷ []) ∷ []
+  -- the charge still rounds up: 10 % of 11 is 1.1, and 2 are charged
+  pub charge-up :
+      bookAnswers (bookAfter (opened (wind 0)) (scheduleOne 1 ∷ block (11 ∷ []) (0 ∷ []) 6 ∷ [])) (closing 6 ∷ []) ≡ accepted (0 ∷ 2 ∷ 0 ∷ 9 ∷ 0 ∷ 0 ∷ []) ∷ []
   -- P10: remainder 38,000,000
   pub P10 :
       bookAnswers (opened slot50)
@@ -202,15 +230,15 @@ pub record BenchCases : Type 0 where
   -- and 2, normal: the second closing goes by hours with the same figures, and lapses as every such one.
   pub change-over :
       bookAnswers (changing linesA) (closing 9 ∷ []) ++ bookAnswers (changing twoMonths) (closing 9 ∷ []) ≡
-      accepted (0 ∷ 15_666 ∷ 2_400 ∷ 5_933 ∷ 0 ∷ 0 ∷ 15_666 ∷ 0 ∷ 0 ∷ []) ∷
-      accepted (0 ∷ 15_666 ∷ 2_400 ∷ 5_933 ∷ 0 ∷ 0 ∷ 15_666 ∷ 0 ∷ 0 ∷ []) ∷
+      accepted (0 ∷ 15_665 ∷ 2_400 ∷ 5_935 ∷ 0 ∷ 0 ∷ 15_665 ∷ 0 ∷ 0 ∷ []) ∷
+      accepted (0 ∷ 15_665 ∷ 2_400 ∷ 5_935 ∷ 0 ∷ 0 ∷ 15_665 ∷ 0 ∷ 0 ∷ []) ∷
       []
   -- months gone before the first closing, after it, and after the second
   pub change-over-gone : map (λ ks. changing ks .gone) (linesA ∷ (linesA ++ (closing 9 ∷ [])) ∷ (twoMonths ++ (closing 9 ∷ [])) ∷ []) ≡ 3 ∷ 0 ∷ 0 ∷ []
   -- pending by class before the first closing, and before the second
-  pub change-over-pending : map (λ ks. table classes (λ k. changing ks .hours k .pending 0)) (linesA ∷ twoMonths ∷ []) ≡ (0 ∷ 0 ∷ 0 ∷ []) ∷ (0 ∷ 23_999 ∷ 0 ∷ []) ∷ []
+  pub change-over-pending : map (λ ks. table classes (λ k. changing ks .hours k .pending 0)) (linesA ∷ twoMonths ∷ []) ≡ (0 ∷ 0 ∷ 0 ∷ []) ∷ (0 ∷ 24_000 ∷ 0 ∷ []) ∷ []
   -- with switch month 3 the first closing keeps the bank, and 4 months are gone
-  pub switch-later : bookAnswers (bookAfter (opened (switched 12 3 3)) linesA) (closing 9 ∷ []) ≡ accepted (0 ∷ 15_666 ∷ 2_400 ∷ 0 ∷ 5_933 ∷ 0 ∷ 15_666 ∷ 0 ∷ 0 ∷ []) ∷ []
+  pub switch-later : bookAnswers (bookAfter (opened (switched 12 3 3)) linesA) (closing 9 ∷ []) ≡ accepted (0 ∷ 15_665 ∷ 2_400 ∷ 0 ∷ 5_935 ∷ 0 ∷ 15_665 ∷ 0 ∷ 0 ∷ []) ∷ []
   pub switch-later-gone : bookAfter (opened (switched 12 3 3)) (linesA ++ (closing 9 ∷ [])) .gone ≡ 4
   -- of 1 month gone, opening with switch month 1 keeps none, with any other the one given
   pub opened-gone : map (λ switch. opened (switched 2 1 switch) .gone) (0 ∷ 1 ∷ 2 ∷ []) ≡ 1 ∷ 0 ∷ 1 ∷ []
@@ -241,6 +269,12 @@ bench-cases =
       P9 = refl;
       P9-part = refl;
       P9-delivered = refl;
+      half-up = refl;
+      below-half-down = refl;
+      tenths = refl;
+      at-exit-below-half = refl;
+      at-exit-half = refl;
+      charge-up = refl;
       P10 = refl;
       slots = refl;
       held-sound = refl;

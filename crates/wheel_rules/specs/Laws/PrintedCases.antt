@@ -30,7 +30,11 @@ use Rattle.wheel_rules.specs.Display.{tableNumber, blocks, calls, firstR
 pub record Cases : Type 0 where
   pub example :
       display (bytes "E1,R1,R2\n70001,20000,60000\n30000,5000,0\n") ≡
-      bytes "generator,injected,unaccounted,loss,setoff,inadvertent,charge,drawn,lapsed,bank,pending\n1,100001,0,6668,69334,0,2400,15666,0,5933,0\n"
+      bytes "generator,injected,unaccounted,loss,setoff,inadvertent,charge,drawn,lapsed,bank,pending\n1,100001,0,6666,69335,0,2400,15665,0,5935,0\n"
+  -- parts 5 and 10, of which half a watt-hour each is lost: 1 and 1; 13 are pending, and the charge of 1.3 is 2
+  pub halves :
+      display (bytes "E1,R1,R2\n15,0,0\n") ≡
+      bytes "generator,injected,unaccounted,loss,setoff,inadvertent,charge,drawn,lapsed,bank,pending\n1,15,0,2,0,0,2,0,0,11,0\n"
   -- no value lines, so no block: the closing is refused
   pub no-lines : display (bytes "E1,R1,R2\n") ≡ bytes "refused 13\n"
   -- a reading over the limit on the second line
@@ -41,4 +45,4 @@ pub record Cases : Type 0 where
 
 pub cases : Cases
 unfolding bytes tableNumber blocks calls firstRefused callNumber lastBook refusedText equationText accountText display digits decimal separatorAfter printed name names namesLine inRange same startsWithNames laterLines isDigit numbers values allFit wellFormed readNumber agreementA sum table all some within place cell pairs joined firstOf portionUp lossOn part span insert sort only ahead inOrder lower settle given kept unmet deemed scheduled order suppliers countedOf counted unaccounted partOf lossOf delivered atExit setOff afterSetOff underdrawn shortfall remainder blockLists blockOutput noInjection noConsumption kindOf installedOf contractedOf linkOf rateOfLoss sizesFit termsFit openingRefusal opened newKw newRank scheduleRefusal afterSchedule scheduleRule generatorAfterBlock consumerAfterBlock afterBlock blockLength entryOf exitOf blockNumber blockRefusal blockRule slotAfter classOfSlot hoursApply beforeSwitch noStocks addsTo classAfterBlock firstGone stockAt drawnAt missingAt cycleEnds lapseDue sourcesOf undivided stocksOf takenUp chargeOf credited serving stock want drawnOf bankLeft suppliedOf charge drawn supplied bankBeforeLapse lapses goneAfter lapsed bankAfter generatorAfterClosing consumerAfterClosing afterClosing closingLists closingOutput closingLength closingNumber closingRefusal closingRule ruleOf next bookAfter bookAnswers
-cases = record { example = refl; no-lines = refl; over-limit = refl; malformed = refl; other-names = refl }
+cases = record { example = refl; halves = refl; no-lines = refl; over-limit = refl; malformed = refl; other-names = refl }
