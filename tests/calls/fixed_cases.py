@@ -12,7 +12,7 @@ from second.calls import (PATTERN, Call, SecondUnit, block_call, close_call, day
 from second.document_cases import DOCUMENT_CASES
 from second.engine import (CLASS_LISTS, CLASS_TERMS, CLASSES, CONSUMER_PLACES, CONSUMER_TERMS,
                            GENERATOR_PLACES, GENERATOR_TERMS, RECORD_BYTES, RECORD_FORM,
-                           RECORD_WORDS, Engine, record_from_bytes, record_to_bytes,
+                           RECORD_WORDS, Engine, record_from_bytes, record_to_bytes, rounded_up,
                            sums_over_classes)
 from second.paper_cases import (CASES, DAYS, HOURS, HOURS_OPENINGS, LARGER_FIRST, NEAREST_LOSS,
                                 REFUSAL_EXAMPLES, REFUSED_BETWEEN, one_pair, with_counts)
@@ -38,9 +38,9 @@ def fed(calls):
         yield call
 
 
-def after(calls):
+def after(calls, engine=None):
     """The record that the calls leave, to be changed by hand."""
-    unit = SecondUnit(Engine())
+    unit = SecondUnit(engine or Engine())
     for call in calls:
         unit.do(call)
     return record_from_bytes(unit.record)
@@ -219,6 +219,23 @@ def loss_of_every_rate():
                     block_call([0] * 8, [8 * 250 * kw] * 16),
                     block_call([16 * 7] * 8, [5 * 250 * kw] * 16))]
             yield f"losses from {first:,} on, kind {kind}", [opening, *calls, close_call(8, 16)]
+
+
+class FormerLoss(Engine):
+    """Document 01 before F-3."""
+
+    def loss(self, part, rate):
+        return rounded_up(part, rate)
+
+
+def units_in_use_before():
+    """Records that the former loss left, within a month: the next blocks go by the new one."""
+    for switch_month in (0, 1, 2):
+        before = [simple_unit(3, 2, kinds=(1, 0, 3), switch_month=switch_month),
+                  simple_schedule(3, 2), *hours_blocks(3, 2, 40)]
+        yield f"former loss in a record, switch month {switch_month}", [
+            lent(after(before, FormerLoss())), *hours_blocks(3, 2, 40), close_call(3, 2),
+            *hours_blocks(3, 2, 3), close_call(3, 2)]
 
 
 def charges_not_whole():
@@ -1340,6 +1357,7 @@ def fixed_cases():
     yield from orders_at_the_limits_of_kw()
     yield from schedules_within_a_month()
     yield from loss_about_a_half()
+    yield from units_in_use_before()
     yield from charges_not_whole()
     yield from cycles()
     yield from paper_hours()

@@ -17,7 +17,7 @@ from pathlib import Path
 
 sys.path.insert(0, str(Path(__file__).resolve().parent.parent))
 
-from fixed_cases import fed, fixed_cases  # noqa: E402
+from fixed_cases import FormerLoss, fed, fixed_cases  # noqa: E402
 from random_calls import calls_of  # noqa: E402
 from second.calls import SecondUnit  # noqa: E402
 from second.engine import (ACCEPTED, CHECK_METER, CLASS_LISTS, CLASS_TERMS,  # noqa: E402
@@ -315,10 +315,7 @@ class LossRoundedDown(Engine):
 
 # ---- Block: loss to the nearest (F-3) ----
 
-@wrong("F-3: loss rounded up as before")
-class LossRoundedUp(Engine):
-    def loss(self, part, rate):
-        return rounded_up(part, rate)
+wrong("F-3: loss rounded up as before")(FormerLoss)
 
 
 def halves_down(amount, rate):
@@ -352,62 +349,43 @@ class LossByFraction(Engine):
         return int(part * (rate / WHOLE) + 0.5)
 
 
-@wrong("F-3: loss to the nearest of a generator's sum")
-class LossOfSum(Engine):
-    # What is lost of the parts so far, less what was lost of those before.
-    def block_rules(self, record, entry, exit):
-        self.exact = 0
-        return super().block_rules(record, entry, exit)
+class ScheduleLossApart(Engine):
+    """Rule 4 with a rounding of its own, whatever rule 3 does."""
+    rounding = staticmethod(to_the_nearest)
 
+    def scheduled_at_exit(self, kind, kw, delivered, rate):
+        scheduled = WH_PER_KW_IN_A_BLOCK * kw
+        q = delivered if self.deemed(kind) else scheduled - self.rounding(scheduled, rate)
+        # With another rounding in rule 3 a generator at its schedule may deliver more than that.
+        return max(q, delivered)
+
+
+@wrong("F-3: rule 4 still up")
+class ScheduleLossUp(ScheduleLossApart):
+    rounding = staticmethod(rounded_up)
+
+
+@wrong("F-3: rule 4 with halves down")
+class ScheduleHalvesDown(ScheduleLossApart):
+    rounding = staticmethod(halves_down)
+
+
+@wrong("F-3: rule 3 still up")
+class PartLossUp(ScheduleLossApart, FormerLoss):
+    pass
+
+
+@wrong("F-3: loss to the nearest of a generator's sum")
+class LossOfSum(ScheduleLossApart):
+    # Of each part: what is lost of the parts so far, less what was lost of those before.
     def counted(self, kind, entry, total_kw):
         self.exact = 0
         return super().counted(kind, entry, total_kw)
 
     def loss(self, part, rate):
-        before = to_the_nearest(self.exact, 1)
+        before = self.exact
         self.exact += part * rate
-        return to_the_nearest(self.exact, 1) - before
-
-    def scheduled_at_exit(self, kind, kw, delivered, rate):
-        scheduled = WH_PER_KW_IN_A_BLOCK * kw
-        q = delivered if self.deemed(kind) else scheduled - to_the_nearest(scheduled, rate)
-        return max(q, delivered)
-
-
-@wrong("F-3: rule 4 still up")
-class ScheduleLossUp(Engine):
-    def scheduled_at_exit(self, kind, kw, delivered, rate):
-        if self.deemed(kind):
-            return delivered
-        scheduled = WH_PER_KW_IN_A_BLOCK * kw
-        # At its schedule more may be delivered by rule 3 than that.
-        return max(scheduled - rounded_up(scheduled, rate), delivered)
-
-
-@wrong("F-3: rule 3 still up")
-class PartLossUp(Engine):
-    def loss(self, part, rate):
-        return rounded_up(part, rate)
-
-    def scheduled_at_exit(self, kind, kw, delivered, rate):
-        scheduled = WH_PER_KW_IN_A_BLOCK * kw
-        return delivered if self.deemed(kind) else scheduled - to_the_nearest(scheduled, rate)
-
-
-@wrong("F-3: rule 4 with halves down")
-class ScheduleHalvesDown(Engine):
-    def scheduled_at_exit(self, kind, kw, delivered, rate):
-        scheduled = WH_PER_KW_IN_A_BLOCK * kw
-        return delivered if self.deemed(kind) else scheduled - halves_down(scheduled, rate)
-
-
-@wrong("F-3: charge to the nearest too")
-class ChargeToTheNearest(Engine):
-    def charge(self, record, g):
-        return to_the_nearest(record.pending[g], record.rate)
-
-    def class_charge(self, record, hours, g):
-        return to_the_nearest(record.of_class(hours, "pending")[g], record.rate)
+        return to_the_nearest(self.exact, 1) - to_the_nearest(before, 1)
 
 
 @wrong("F-3: charge to the nearest before the switch month")
@@ -420,6 +398,11 @@ class FormerChargeToTheNearest(Engine):
 class ClassChargeToTheNearest(Engine):
     def class_charge(self, record, hours, g):
         return to_the_nearest(record.of_class(hours, "pending")[g], record.rate)
+
+
+@wrong("F-3: charge to the nearest too")
+class ChargeToTheNearest(FormerChargeToTheNearest, ClassChargeToTheNearest):
+    pass
 
 
 # ---- Block: the other rules ----
