@@ -343,8 +343,8 @@ class LargeHalvesDown(Engine):
         return halves_down(part, rate) if part > 100_000_000 else super().loss(part, rate)
 
 
-@wrong("F-3: loss by a fraction of the computer")
-class LossByFraction(Engine):
+@wrong("F-3: loss by binary fractions")
+class LossByFractions(Engine):
     def loss(self, part, rate):
         return int(part * (rate / WHOLE) + 0.5)
 

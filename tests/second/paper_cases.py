@@ -206,7 +206,7 @@ def short(kw, loss, metered):
 
 # A list of calls, all accepted, with what document 02 makes of the last one's output.
 NEAREST_LOSS = {
-    # 1 Wh: 0.5 is a half and goes up, as P9 was before; 0.4999 goes down.
+    # 1 Wh: 0.5 is a half and goes up, so that all is lost, as in P9 before; 0.4999 goes down.
     "half of 1 Wh": (lost(1, 5_000), {"loss": [1], "underdrawn": [0]}),
     "less than half of 1 Wh": (lost(1, 4_999), {"loss": [0], "underdrawn": [1]}),
     # 1.5 and 2.5 both go up: to the nearest even number it would be 2 and 2.
@@ -229,7 +229,7 @@ NEAREST_LOSS = {
         lost(199_999_999, 5_000), {"loss": [100_000_000], "underdrawn": [99_999_999]}),
     "199,999,999 Wh at 4,999": (
         lost(199_999_999, 4_999), {"loss": [99_980_000], "underdrawn": [100_019_999]}),
-    # 29 % of 50 Wh is 14.5. A computer's fraction for 0.29 is below it, and so would be 14.5.
+    # 29 % of 50 Wh is 14.5. The binary fraction nearest to 0.29, times 50, is below that: 14.
     "29 % of 50 Wh": (lost(50, 2_900), {"loss": [15], "underdrawn": [35]}),
     # Two consumers, 1 Wh each: 1 is lost of either. On their sum it would be 1 for both.
     "each pair by itself": (
