@@ -221,6 +221,31 @@ def loss_of_every_rate():
             yield f"losses from {first:,} on, kind {kind}", [opening, *calls, close_call(8, 16)]
 
 
+def about_32_bits(rate, most):
+    """Energies up to most where their product with the rate, or that and a half, leaves 32 bits
+    (F-4), and where ten-thousands begin."""
+    edges = [(2**32 - 1) // rate, (2**32 - 1 - 5_000) // rate]
+    edges += [10_000 * whole for whole in (1, 2, 9_999, 10_000, 19_999)]
+    return [energy for edge in edges for energy in (edge - 1, edge, edge + 1)
+            if energy <= most] + [most - 1, most]
+
+
+def loss_about_32_bits():
+    """Rule 3 on a part of a deemed kind and of kind 0, and rule 4 on 250 times a kW figure."""
+    for rate in (22, 23, 43, 47, 100, 429, 430, 999, 1_000, 2_147, 2_148, 3_333, 4_999, 5_000):
+        for kind, most in ((1, READING_LIMIT), (0, READING_LIMIT // 2)):
+            yield f"loss of {rate:,} about 32 bits, kind {kind}", (
+                one_pair(kind, rate, KW_LIMIT, 1_000)
+                + [block_call((part,), (part // 2,)) for part in about_32_bits(rate, most)]
+                + [close_call(1, 1)])
+        kw_figures = sorted({kw for energy in about_32_bits(rate, 250 * KW_LIMIT)
+                             for kw in (energy // 250, energy // 250 + 1) if kw <= KW_LIMIT})
+        yield f"scheduled at exit, loss of {rate:,} about 32 bits", (
+            one_pair(0, rate) + [call for kw in kw_figures for call in (
+                schedule_call((kw,), (1,)), block_call((0,), (READING_LIMIT,)))]
+            + [close_call(1, 1)])
+
+
 class FormerLoss(Engine):
     """Document 01 before F-3."""
 
@@ -1357,6 +1382,7 @@ def fixed_cases():
     yield from orders_at_the_limits_of_kw()
     yield from schedules_within_a_month()
     yield from loss_about_a_half()
+    yield from loss_about_32_bits()
     yield from units_in_use_before()
     yield from charges_not_whole()
     yield from cycles()

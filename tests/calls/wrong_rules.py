@@ -405,6 +405,58 @@ class ChargeToTheNearest(FormerChargeToTheNearest, ClassChargeToTheNearest):
     pass
 
 
+# ---- Block: the loss in 32 bits (F-4) ----
+
+def product_in_32_bits(amount, rate):
+    """The product before the split: what leaves 32 bits is lost."""
+    return (amount * rate % 2**32 + WHOLE // 2) // WHOLE
+
+
+@wrong("F-4: product before the split")
+class ProductBeforeTheSplit(Engine):
+    def loss(self, part, rate):
+        return product_in_32_bits(part, rate)
+
+
+@wrong("F-4: product before the split, rule 3 only")
+class PartProductBeforeTheSplit(ScheduleLossApart):
+    def loss(self, part, rate):
+        return product_in_32_bits(part, rate)
+
+
+@wrong("F-4: product before the split, rule 4 only")
+class ScheduleProductBeforeTheSplit(ScheduleLossApart):
+    rounding = staticmethod(product_in_32_bits)
+
+
+@wrong("F-4: the half leaves 32 bits")
+class HalfBeyond32Bits(Engine):
+    # Split only where the product by itself leaves 32 bits.
+    def loss(self, part, rate):
+        if part * rate < 2**32:
+            return (part * rate + WHOLE // 2) % 2**32 // WHOLE
+        return super().loss(part, rate)
+
+
+@wrong("F-4: ten-thousands rounded by themselves")
+class TenThousandsRounded(Engine):
+    def loss(self, part, rate):
+        return (part + WHOLE // 2) // WHOLE * rate
+
+
+@wrong("F-4: remainder forgotten")
+class RemainderForgotten(Engine):
+    def loss(self, part, rate):
+        return part // WHOLE * rate
+
+
+@wrong("F-4: remainder of whole thousands")
+class ThousandsRounded(Engine):
+    # Whole thousands lose no whole number, so both roundings count.
+    def loss(self, part, rate):
+        return to_the_nearest(part // 1_000 * 1_000, rate) + to_the_nearest(part % 1_000, rate)
+
+
 # ---- Block: the other rules ----
 
 @wrong("each part rounded by itself")

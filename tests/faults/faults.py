@@ -108,10 +108,16 @@ FAULTS = {
         "scheduled at exit without loss":
             ("scheduled.0 - lost.0 - delivered", "scheduled.0 - delivered"),
         "loss with halves to the even number":
-            ("(x.0 * rate + 5_000) / 10_000",
-             "(x.0 * rate + 4_999 + x.0 * rate / 10_000 % 2) / 10_000"),
-        "product of the loss in 32 bits":
-            ("(x.0 * rate + 5_000) / 10_000", "(x.0 * rate % 4_294_967_296 + 5_000) / 10_000"),
+            ("(rest * rate + 5_000) / 10_000",
+             "(rest * rate + 4_999 + (whole * rate + rest * rate / 10_000) % 2) / 10_000"),
+        "product of the loss before the split":
+            ("whole * rate + (rest * rate + 5_000) / 10_000",
+             "((x.0 as u64 * rate as u64 % 4_294_967_296 + 5_000) / 10_000) as u32"),
+        "ten-thousands of the loss rounded":
+            ("whole: x / 10_000,", "whole: (x + 5_000) / 10_000,"),
+        "remainder of the loss forgotten": ("rest: x % 10_000,", "rest: 0,"),
+        "remainder of the loss by the thousand": ("rest: x % 10_000,", "rest: x % 1_000,"),
+        "quarter hour of 256": ("BlockWh(250 * self.0)", "BlockWh(256 * self.0)"),
         "running shares rounded up":
             ("let share = k * sum / all;", "let share = (k * sum + all - 1) / all;"),
         "shortfall is what is not used of it":
@@ -513,7 +519,8 @@ def compared(folder, tested, files):
     shutil.copytree(CRATES, crates, ignore=shutil.ignore_patterns("proofs", "specs", "must-fail"))
     for file, text in files.items():
         (crates / file).write_text(text)
-    compile_unproved(folder / "calls.o", crates, library=tested.library, root=tested.root)
+    compile_unproved(folder / "calls.o", crates=crates, library=tested.library,
+                     root=tested.root)
     library = folder / "calls.so"
     subprocess.run(["gcc", "-shared", "-o", library, folder / "calls.o"], check=True)
     done = subprocess.run([sys.executable, "-B", tested.program, library, "--unshrunk"],

@@ -9,15 +9,15 @@ ghost use Rattle.lists.specs.Tables.{table};
 ghost use Rattle.lists.specs.Laws.TablesLaws.{filled};
 ghost use Rattle.lists.specs.Pairs.{place, pairs};
 ghost use Rattle.energy.specs.Energy.{lossOn, afterLoss};
-ghost use Rattle.energy.specs.Limits.{mostCapacity};
+ghost use Rattle.energy.specs.Limits.{mostCapacity, mostLoss};
 ghost use Rattle.block_rules.specs.Delivery.{countedOf, unaccounted, scheduledAtExit};
 ghost use Rattle.block_rules.specs.Laws.DeliveredIn.{DeliveredIn};
 ghost use Rattle.record_layout.specs.OnBytes.{planIn};
 ghost use Rattle.record_places.specs.RecordSize.{recordBytes};
 ghost use Rattle.block_delivery.specs.Laws.DeliveryLent.{entriesIn, Ready};
-ghost use Rattle.block_delivery.specs.Laws.DeliveryRows.{figure, gapAt, Limited, Shared, LossRow, LossRows, Lessened};
+ghost use Rattle.block_delivery.specs.Laws.DeliveryRows.{figure, gapAt, Limited, Shared, Rows, Lessened};
+use energy::BlockWh;
 use energy::Kw;
-use energy::Wh;
 
 // Three figures of the agreement and the schedule, each read where the record has it: a generator's kind, a pair's kW and its loss rate.
 fn kind_at(s: &[u8], g: usize) -> u64
@@ -34,11 +34,11 @@ fn kw_at(s: &[u8], g: usize, c: usize) -> Kw
     Kw(record_numbers::number_at(s, record_places::KW + g * 16 + c) as u32)
 }
 
-fn rate_at(s: &[u8], g: usize, c: usize) -> u64
-    requires { ⌜ (length (now s) ≡ recordBytes) × ((g < 8) × (c < 16)) ⌝ }
+fn rate_at(s: &[u8], g: usize, c: usize) -> u32
+    requires { ⌜ (length (now s) ≡ recordBytes) × ((g < 8) × ((c < 16) × ((i j : ℕ) → planIn (now s) .loss i j ≤ mostLoss))) ⌝ }
     ensures { λ r. ⌜ r ≡ planIn (now (s .entry)) .loss g c ⌝ }
 {
-    record_numbers::number_at(s, record_places::LOSS + g * 16 + c)
+    record_numbers::number_at(s, record_places::LOSS + g * 16 + c) as u32
 }
 
 // The kW of generator g for each consumer, as the share step takes them.
@@ -84,24 +84,24 @@ fn share_rows(s: &[u8], n: usize, entry: &[u32], parts: &mut [[u32; 16]; 8], out
 
 // The energy that the loss of a pair is taken on, and the rate.
 struct Lossy {
-    energy: Wh,
-    rate: u64,
+    energy: BlockWh,
+    rate: u32,
 }
 
 // The loss is taken on the pair's own part of this block. Taken on a sum of several, and so rounded once for all, it would be another.
 fn lossy_at(s: &[u8], g: usize, c: usize, part: u32) -> Lossy
-    requires { ⌜ (length (now s) ≡ recordBytes) × ((g < 8) × (c < 16)) ⌝ }
+    requires { ⌜ (length (now s) ≡ recordBytes) × ((g < 8) × ((c < 16) × ((i j : ℕ) → planIn (now s) .loss i j ≤ mostLoss))) ⌝ }
     ensures { λ r. ⌜ (r .energy .0 ≡ part) × (r .rate ≡ planIn (now (s .entry)) .loss g c) ⌝ }
 {
     Lossy {
-        energy: Wh(lists::wide(part)),
+        energy: BlockWh(part),
         rate: rate_at(s, g, c),
     }
 }
 
 // Rule 3 for generator g: in `out` its row of the losses. What they leave of its parts, and so what is delivered, stays in `parts`.
 fn loss_row(s: &[u8], g: usize, m: usize, parts: &mut [u32; 16], out: &mut [u64])
-    requires { ⌜ Limited (now s) m × ((g < 8) × (LossRow m (now parts) × (length (now out) ≡ m))) ⌝ }
+    requires { ⌜ Limited (now s) m × ((g < 8) × ((length (now parts) ≡ 16) × (length (now out) ≡ m))) ⌝ }
     ensures { λ _. ⌜ (now (out .exit) ≡ table m (λ c. lossOn (getD (now (parts .entry)) c 0) (planIn (now (s .entry)) .loss g c))) × (now (parts .exit) ≡ filled (now (parts .entry)) m (λ c. afterLoss (getD (now (parts .entry)) c 0) (planIn (now (s .entry)) .loss g c))) ⌝ }
 {
     let mut c: usize = 0;
@@ -109,15 +109,15 @@ fn loss_row(s: &[u8], g: usize, m: usize, parts: &mut [u32; 16], out: &mut [u64]
         let part = parts[c];
         let lossy = lossy_at(s, g, c, part);
         let less = energy::loss(lossy.energy, lossy.rate);
-        parts[c] = part - less.0 as u32;
-        out[c] = less.0;
+        parts[c] = part - less.0;
+        out[c] = lists::wide(less.0);
         c += 1;
     }
 }
 
 // Rule 3: the list of losses, row after row. What is delivered stays in `parts`.
 fn fill_loss(s: &[u8], n: usize, m: usize, parts: &mut [[u32; 16]; 8], out: &mut [u64])
-    requires { ⌜ Limited (now s) m × ((n ≤ 8) × (LossRows n m (now parts) × (length (now out) ≡ n * m))) ⌝ }
+    requires { ⌜ Limited (now s) m × ((n ≤ 8) × (Rows n (now parts) × (length (now out) ≡ n * m))) ⌝ }
     ensures { λ _. ⌜ (now (out .exit) ≡ pairs n m (λ g c. lossOn (figure (now (parts .entry)) g c) (planIn (now (s .entry)) .loss g c))) × Lessened (planIn (now (s .entry))) n m (now (parts .entry)) (now (parts .exit)) ⌝ }
 {
     let mut at: usize = 0;
@@ -167,7 +167,7 @@ fn gap_row(s: &[u8], g: usize, m: usize, delivered: &[u32; 16], out: &mut [u64])
     while c < m {
         let scheduled = kw_at(s, g, c).quarter_hour();
         let rate = rate_at(s, g, c);
-        out[c] = block_figures::gap(kind, scheduled, rate, lists::wide(delivered[c]));
+        out[c] = lists::wide(block_figures::gap(kind, scheduled, rate, delivered[c]));
         c += 1;
     }
 }

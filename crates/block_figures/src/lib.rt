@@ -3,13 +3,12 @@ ghost use mathlib.Core.Path.{_≡_};
 ghost use Prim.Native.Nat.{_≤_};
 ghost use Rattle.lists.specs.Sums.{sum};
 ghost use Rattle.lists.specs.Pairs.{place};
-ghost use Rattle.energy.specs.Limits.{mostCapacity};
+ghost use Rattle.energy.specs.Limits.{mostCapacity, mostLoss};
 ghost use Rattle.block_rules.specs.Delivery.{countedOf};
 ghost use Rattle.energy.specs.Energy.{afterLoss};
-ghost use Rattle.energy.specs.Laws.Portionable.{Portionable};
 ghost use Rattle.block_figures.specs.Laws.Gap.{gapOf};
+use energy::BlockWh;
 use energy::Kw;
-use energy::Wh;
 
 // All the kW of a generator, added up.
 pub fn scheduled_kw(row: [u32; 16]) -> Kw
@@ -28,6 +27,7 @@ pub fn scheduled_kw(row: [u32; 16]) -> Kw
 // Rule 1: what counts of the entry reading. Nothing where nothing is scheduled; all of it for a deemed kind, which is scheduled at what it
 // delivers; else at most what is scheduled.
 pub fn counted(kind: u64, scheduled: Kw, entry: u32) -> u32
+    requires { ⌜ scheduled .0 ≤ mostCapacity ⌝ }
     ensures { λ r. ⌜ r ≡ countedOf kind (scheduled .0) entry ⌝ }
 {
     if scheduled.0 == 0 {
@@ -37,16 +37,12 @@ pub fn counted(kind: u64, scheduled: Kw, entry: u32) -> u32
         return entry;
     }
     let most = scheduled.quarter_hour();
-    if lists::wide(entry) < most.0 {
-        entry
-    } else {
-        most.0 as u32
-    }
+    if entry < most.0 { entry } else { most.0 }
 }
 
 // Rule 4, less what is delivered: a deemed kind is scheduled at what it delivers.
-pub fn gap(kind: u64, scheduled: Wh, rate: u64, delivered: u64) -> u64
-    requires { ⌜ Portionable (scheduled .0) rate × (kind ≡ 0 → delivered ≤ afterLoss (scheduled .0) rate) ⌝ }
+pub fn gap(kind: u64, scheduled: BlockWh, rate: u32, delivered: u32) -> u32
+    requires { ⌜ (rate ≤ mostLoss) × (kind ≡ 0 → delivered ≤ afterLoss (scheduled .0) rate) ⌝ }
     ensures { λ r. ⌜ r ≡ gapOf kind (scheduled .0) rate delivered ⌝ }
 {
     if kind == 0 {

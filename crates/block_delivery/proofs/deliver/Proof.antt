@@ -5,7 +5,7 @@ use borrow.Author.Needs.{needs}
 use Rattle.lists.specs.Laws.TablesLaws.{length-table}
 use Rattle.lists.specs.Laws.PairsLaws.{length-pairs}
 use Rattle.output_lists.specs.Laws.StretchPlaces.{lent-from}
-use Rattle.block_delivery.specs.Laws.DeliveryLists.{limited, all-consumers, lossy, exact-here, delivered-in, same-size}
+use Rattle.block_delivery.specs.Laws.DeliveryLists.{limited, all-consumers, rows, exact-here, delivered-in, same-size}
 use Rattle.block_delivery.proofs.deliver.Statement.{statement}
 use Rattle.block_delivery.proofs.deliver.Tie as tie
 
@@ -29,7 +29,7 @@ fill-loss-requires : tie.Need-fill-loss-requires
 fill-loss-requires c κs =
     let h = c .before .before .before .before in
     let r = start h .pre .0 in
-    (limited r, (search needs, (lossy (r .deliverable) (r .n-is) (r .m-is) (h .share-rows .ensures .1), search needs)))
+    (limited r, (search needs, (rows (h .share-rows .ensures .1), search needs)))
 
 fill-gap-requires : tie.Need-fill-gap-requires
 fill-gap-requires c κs =

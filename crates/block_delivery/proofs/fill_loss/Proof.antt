@@ -40,7 +40,7 @@ loss-row-requires : tie.Need-loss-row-requires Inv-loop μ-loop
 loss-row-requires c κs =
     let i = c .before .before in
     let p = start i .pre in
-    (p .0, (search needs, (rw (row-here i) (p .1 .1 .0 .row (i .before .loop .g) (search needs)), search needs)))
+    (p .0, (search needs, (rw (row-here i) (p .1 .1 .0 .row-size (i .before .loop .g) (search needs)), search needs)))
 
 loop-again : tie.Need-loop-again Inv-loop μ-loop
 loop-again c =

@@ -26,23 +26,30 @@ start i = i .before .before .before .before .before
 kw-at-requires : tie.Need-kw-at-requires Inv-loop μ-loop
 kw-at-requires c κs = (search needs, (search needs, (search needs, start c .pre .0 .kw-high (start c .args .g) (c .before .loop .c))))
 
+quarter-hour-requires : tie.Need-quarter-hour-requires Inv-loop μ-loop
+quarter-hour-requires c κs = let i = c .before in rw (c .kw-at .ensures) (start i .pre .0 .kw-high (start i .args .g) (i .before .loop .c))
+
+rate-at-requires : tie.Need-rate-at-requires Inv-loop μ-loop
+rate-at-requires c κs = (search needs, (search needs, (search needs, start (c .before .before) .pre .0 .loss-high)))
+
 gap-requires : tie.Need-gap-requires Inv-loop μ-loop
 gap-requires c κs =
-    let r = c .before .before in
+    let r = c .before in
     let q = r .before in
     let i = q .before .before in
     let p = start i .pre in
     let j = i .before .loop .c in
-    rw (c .wide .ensures, r .rate-at .ensures, q .quarter-hour .ensures, q .before .kw-at .ensures, i .before .before .kind-at .ensures)
-    (record { energy = omega (arith, p .0 .kw-high (start i .args .g) j); rate = p .0 .loss-high (start i .args .g) j }, λ z. p .1 .1 .0 j (search needs) z)
+    rw (r .rate-at .ensures, q .quarter-hour .ensures, q .before .kw-at .ensures, i .before .before .kind-at .ensures)
+    (p .0 .loss-high (start i .args .g) j, λ z. p .1 .1 .0 j (search needs) z)
 
 loop-again : tie.Need-loop-again Inv-loop μ-loop
 loop-again c =
-    let r = c .before .before .before in
+    let k = c .before in
+    let r = k .before .before in
     let q = r .before in
     let i = q .before .before in
     fill-step (i .before .loop .inv) (search needs)
-    (c .gap .ensures ∙ rw (c .before .wide .ensures, r .rate-at .ensures, q .quarter-hour .ensures, q .before .kw-at .ensures, i .before .before .kind-at .ensures))
+    (c .wide .ensures ∙ k .gap .ensures ∙ rw (r .rate-at .ensures, q .quarter-hour .ensures, q .before .kw-at .ensures, i .before .before .kind-at .ensures))
 
 pub gap-row-spec : {M : Type 1} → statement M
 gap-row-spec =
@@ -53,12 +60,12 @@ gap-row-spec =
     (λ c κs. search needs)
     (λ c. fill-start (search needs))
     kw-at-requires
-    (λ c κs. search needs)
-    (λ c κs. search needs)
+    quarter-hour-requires
+    rate-at-requires
     (λ c. search needs)
     (λ c. search needs)
-    (λ c κs. search needs)
     gap-requires
+    (λ c κs. search needs)
     (λ c. search needs)
     (λ c. omega (arith, fill-length (c .before .before .before .before .before .before .before .loop .inv)))
     (λ c. search needs)

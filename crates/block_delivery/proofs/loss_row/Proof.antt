@@ -7,7 +7,7 @@ use lib.ListN.{getD}
 use Rattle.lists.specs.Laws.TablesLaws.{Filling, fill-start, fill-step, fill-here, fill-length, fill-done}
 use Rattle.energy.specs.Energy.{lossOn, afterLoss}
 use Rattle.energy.specs.Laws.EnergyLaws.{loss-le}
-use Rattle.energy.specs.Limits.{mostLoss, mostReading}
+use Rattle.energy.specs.Limits.{mostLoss}
 use Rattle.record_layout.specs.OnBytes.{planIn}
 use Rattle.block_delivery.proofs.loss_row.Statement.{statement}
 use Rattle.block_delivery.proofs.loss_row.Tie as tie
@@ -35,27 +35,28 @@ rate i = planIn (start i .args .s .now) .loss (start i .args .g) (i .before .loo
 part-here : (i : In) → getD (i .before .loop .parts) (i .before .loop .c) 0 ≡ part i
 part-here i = fill-here (i .before .loop .inv .1)
 
-high : (i : In) → (part i ≤ mostReading) × (rate i ≤ mostLoss)
-high i = (start i .pre .1 .1 .0 .high (i .before .loop .c) (search needs), start i .pre .0 .loss-high (start i .args .g) (i .before .loop .c))
+rate-high : (i : In) → rate i ≤ mostLoss
+rate-high i = start i .pre .0 .loss-high (start i .args .g) (i .before .loop .c)
 
 -- the loss is the pair's, and within its part
 taken : (k : tie.After-lossy-at Inv-loop μ-loop) → let i = k .before .before in (k .lossy-at .result .energy .0 ≡ part i) × (k .lossy-at .result .rate ≡ rate i)
-taken k = let i = k .before .before in let h = high i in (omega (arith, part-here i), omega arith)
+taken k = let i = k .before .before in (omega (arith, part-here i), omega arith)
 
 less-is : (k : tie.After-loss Inv-loop μ-loop) → let i = k .before .before .before in k .loss .result .0 ≡ lossOn (part i) (rate i)
 less-is k = let t = taken (k .before) in k .loss .ensures ∙ rw (t .0, t .1)
 
 less-low : (k : tie.After-loss Inv-loop μ-loop) → k .loss .result .0 ≤ part (k .before .before .before)
-less-low k = let i = k .before .before .before in omega (arith, less-is k, loss-le (part i) (rate i) (omega (arith, high i)))
+less-low k = let i = k .before .before .before in omega (arith, less-is k, loss-le (part i) (rate i) (omega (arith, rate-high i)))
 
-loss-requires : tie.Need-loss-requires Inv-loop μ-loop
-loss-requires c κs = let h = high (c .before .before) in record { energy = omega (arith, taken c); rate = omega (arith, taken c) }
+lossy-at-requires : tie.Need-lossy-at-requires Inv-loop μ-loop
+lossy-at-requires c κs = (search needs, (search needs, (search needs, start (c .before) .pre .0 .loss-high)))
 
 loop-again : tie.Need-loop-again Inv-loop μ-loop
 loop-again c =
-    let i = c .before .before .before .before in
+    let k = c .before .before in
+    let i = k .before .before .before in
     let v = i .before .loop .inv in
-    (fill-step (v .0) (search needs) (less-is (c .before)), fill-step (v .1) (omega arith) (rw (part-here i, less-is (c .before))))
+    (fill-step (v .0) (search needs) (c .wide .ensures ∙ less-is k), fill-step (v .1) (omega arith) (rw (part-here i, less-is k)))
 
 returns : tie.Need-returns Inv-loop μ-loop
 returns c =
@@ -72,14 +73,14 @@ loss-row-spec =
     (λ c. (fill-start (search needs), fill-start (search needs)))
     (λ c. search needs)
     (λ c. search needs)
-    (λ c κs. search needs)
-    loss-requires
-    (λ c. omega (arith, less-low (c .before), high (c .before .before .before .before)))
+    lossy-at-requires
+    (λ c κs. omega (arith, taken c, rate-high (c .before .before)))
     (λ c. omega (arith, less-low (c .before), part-here (c .before .before .before .before)))
     (λ c. search needs)
     (λ c. search needs)
+    (λ c κs. search needs)
     (λ c. search needs)
-    (λ c. omega (arith, fill-length (c .before .before .before .before .before .loop .inv .0)))
+    (λ c. omega (arith, fill-length (c .before .before .before .before .before .before .loop .inv .0)))
     (λ c. search needs)
     (λ c. search needs)
     loop-again

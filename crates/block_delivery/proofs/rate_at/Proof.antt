@@ -1,12 +1,14 @@
--- `block_delivery::rate_at` reads the pair's loss rate. Assumes nothing.
-use mathlib.Core.Path.{sym, _∙_}
+-- `block_delivery::rate_at` reads the pair's loss rate, which fits 32 bits, since it is not over its limit. Assumes nothing.
+use mathlib.Core.Path.{_≡_, sym, _∙_}
+use native.Mathlib.Omega.{arith}
 use borrow.Author.Needs.{needs}
+use Rattle.record_layout.specs.OnBytes.{planIn}
 use Rattle.record_layout.specs.Laws.PairPlaces.{loss-at}
 use Rattle.block_delivery.proofs.rate_at.Statement.{statement}
 use Rattle.block_delivery.proofs.rate_at.Tie as tie
 
-returns : tie.Need-returns
-returns c = let s = c .before .before in c .number-at .ensures ∙ sym (loss-at (s .args .s .now) (s .args .g) (s .args .c) (search needs) (search needs))
+read : (c : tie.After-number-at) → c .number-at .result ≡ planIn (c .before .before .args .s .now) .loss (c .before .before .args .g) (c .before .before .args .c)
+read c = let s = c .before .before in c .number-at .ensures ∙ sym (loss-at (s .args .s .now) (s .args .g) (s .args .c) (search needs) (search needs))
 
 pub rate-at-spec : {M : Type 1} → statement M
 rate-at-spec =
@@ -16,4 +18,5 @@ rate-at-spec =
     (λ c. search needs)
     (λ c. search needs)
     (λ c κs. search needs)
-    returns)
+    (λ c. let s = c .before .before in omega (arith, read c, s .pre .1 .1 .1 (s .args .g) (s .args .c)))
+    (λ c. read c))

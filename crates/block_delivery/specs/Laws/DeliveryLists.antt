@@ -18,8 +18,8 @@ use Rattle.block_rules.specs.Laws.Deliverable.{Deliverable}
 use Rattle.block_rules.specs.Laws.DeliveredIn.{DeliveredIn}
 use Rattle.record_layout.specs.OnBytes.{planIn}
 use Rattle.block_delivery.specs.Laws.DeliveryLent.{entriesIn, Ready}
-use Rattle.block_delivery.specs.Laws.DeliveryRows.{figure, gapAt, Limited, Shared, LossRows, Lessened}
-use Rattle.block_delivery.specs.Laws.DeliveryRowLaws.{kw-high, part-high, exact, gap-is}
+use Rattle.block_delivery.specs.Laws.DeliveryRows.{figure, gapAt, Limited, Shared, Rows, Lessened}
+use Rattle.block_delivery.specs.Laws.DeliveryRowLaws.{kw-high, exact, gap-is}
 
 pub limited : {s entry : List ℕ} {n m : ℕ} → Ready s n m entry → Limited s m
 limited {s} {entry} r =
@@ -29,6 +29,9 @@ limited {s} {entry} r =
 pub all-consumers : {s entry : List ℕ} {n m : ℕ} → Ready s n m entry → Ready s n (planIn s .C) entry
 all-consumers r = rw (r .m-is) at r
 
+pub rows : {p : Plan} {E : ℕ → ℕ} {n : ℕ} {parts : List (List ℕ)} → Shared p E n parts → Rows n parts
+rows shared = record { size = shared .size; row-size = λ g k. ap length (shared .row-is g k) ∙ length-table 16 _ }
+
 -- the output keeps its length
 pub same-size : {p : Plan} {E : ℕ → ℕ} {n m k : ℕ} {out : List ℕ} → n ≡ p .G → m ≡ p .C → k ≡ 4 * (n * m) + n + m → DeliveredIn p E out → length out ≡ k
 same-size a b l d = d .size ∙ sym (l ∙ (λ i. 4 * (a i * b i) + a i + b i))
@@ -36,18 +39,6 @@ same-size a b l d = d .size ∙ sym (l ∙ (λ i. 4 * (a i * b i) + a i + b i))
 module _ {p : Plan} {E : ℕ → ℕ} {n m : ℕ} (d : Deliverable p E) (G-is : n ≡ p .G) (C-is : m ≡ p .C) {parts : List (List ℕ)} (shared : Shared p E n parts) where
   part-of : (g c : ℕ) → g < n → c < m → figure parts g c ≡ partOf p g (E g) c
   part-of g c k l = ap (λ (row : List ℕ). getD row c 0) (shared .row-is g k) ∙ getD-table 16 (partOf p g (E g)) c 0 (omega (arith, d .C-high))
-
-  pub lossy : LossRows n m parts
-  lossy =
-      record {
-        size = shared .size;
-        row =
-            λ g k.
-            record {
-              size = ap length (shared .row-is g k) ∙ length-table 16 (partOf p g (E g));
-              high = λ c l. omega (arith, part-of g c k l, part-high p E d g c (omega arith));
-            };
-      }
 
   abbrev loss-at : ℕ → ℕ → ℕ
   loss-at g c = lossOn (figure parts g c) (p .loss g c)

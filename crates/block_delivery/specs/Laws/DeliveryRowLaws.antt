@@ -17,7 +17,7 @@ use Rattle.lists.specs.Pairs.{place}
 use Rattle.lists.specs.Laws.PairsLaws.{place-table}
 use Rattle.energy.specs.Limits.{mostCapacity, mostReading}
 use Rattle.sharing.specs.Share.{part, shared}
-use Rattle.sharing.specs.Laws.ShareLaws.{part-le-whole, part-wide, shared-within}
+use Rattle.sharing.specs.Laws.ShareLaws.{part-wide, shared-within}
 use Rattle.record.specs.Plan.{Plan, deemed, scheduled}
 use Rattle.block_rules.specs.Delivery.{countedOf, counted, partOf, delivered, scheduledAtExit, atExit}
 use Rattle.block_rules.specs.Laws.DeliveryLaws.{counted-le, delivered-le}
@@ -103,7 +103,3 @@ module _ (p : Plan) (E : ℕ → ℕ) (d : Deliverable p E) (g : ℕ) where
 
   pub exact : (c : ℕ) → p .kind g ≡ 0 → delivered p g (E g) c ≤ scheduledAtExit p g c
   exact c z = omega (arith, delivered-le p g (E g) c (omega (arith, d .loss-high g c)), exit-of-scheduled p g (E g) c z)
-
-  pub part-high : (c : ℕ) → c < p .C → partOf p g (E g) c ≤ mostReading
-  unfolding partOf
-  part-high c l = omega (arith, counted-high, part-le-whole (p .C) (p .kw g) (counted p g (E g)) c l)

@@ -5,7 +5,7 @@ use mathlib.Core.Path.{_≡_}
 use lib.ListN.{length, getD}
 use Rattle.lists.specs.Tables.{table}
 use Rattle.energy.specs.Energy.{quarterHour, afterLoss}
-use Rattle.energy.specs.Limits.{mostConsumers, mostCapacity, mostLoss, mostReading}
+use Rattle.energy.specs.Limits.{mostConsumers, mostCapacity, mostLoss}
 use Rattle.record.specs.Plan.{Plan}
 use Rattle.block_rules.specs.Delivery.{partOf}
 use Rattle.block_figures.specs.Laws.Gap.{gapOf}
@@ -32,14 +32,10 @@ pub record Shared (p : Plan) (E : ℕ → ℕ) (n : ℕ) (parts : List (List ℕ
   pub size : length parts ≡ 8
   pub row-is : (g : ℕ) → g < n → getD parts g [] ≡ table 16 (partOf p g (E g))
 
--- what rule 3 asks of the parts of one generator for m consumers, and of n generators
-pub record LossRow (m : ℕ) (parts : List ℕ) : Type 0 where
-  pub size : length parts ≡ 16
-  pub high : (c : ℕ) → c < m → getD parts c 0 ≤ mostReading
-
-pub record LossRows (n m : ℕ) (parts : List (List ℕ)) : Type 0 where
+-- room for 8 rows, of which n have 16 figures each
+pub record Rows (n : ℕ) (parts : List (List ℕ)) : Type 0 where
   pub size : length parts ≡ 8
-  pub row : (g : ℕ) → g < n → LossRow m (getD parts g [])
+  pub row-size : (g : ℕ) → g < n → length (getD parts g []) ≡ 16
 
 -- what rule 3 leaves of them
 pub record Lessened (p : Plan) (n m : ℕ) (parts after : List (List ℕ)) : Type 0 where

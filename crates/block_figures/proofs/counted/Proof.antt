@@ -1,34 +1,27 @@
 -- `block_figures::counted` is rule 1, by its cases. Assumes nothing.
+use Prim.Native.Nat.{min}
+use mathlib.Core.Path.{_≡_}
 use native.Mathlib.Omega.{arith}
 use borrow.Author.Needs.{needs}
+use Rattle.energy.specs.Energy.{quarterHour}
+use Rattle.block_rules.specs.Delivery.{countedOf}
 use Rattle.block_figures.specs.Laws.CountingLaws.{counted-idle, counted-deemed, counted-smaller}
 use Rattle.block_figures.proofs.counted.Statement.{statement}
 use Rattle.block_figures.proofs.counted.Tie as tie
 
-returns : tie.Need-returns
-returns c = counted-idle _ _ _ (c .if1 .taken)
+-- where the function started, once its schedule is in Wh
+abbrev start : tie.After-quarter-hour → tie.Start
+start q = q .before .before .before .before
 
-returns-2 : tie.Need-returns-2
-returns-2 c = counted-deemed _ _ _ (λ z. omega arith) (λ z. omega arith)
-
-returns-3 : tie.Need-returns-3
-returns-3 c =
-    let s = c .before .before .before .before .before .before .before in
-    omega (arith, counted-smaller (s .args .kind) (s .args .scheduled .0) (s .args .entry) (λ z. omega arith) (omega arith))
-
-returns-4 : tie.Need-returns-4
-returns-4 c =
-    let s = c .before .before .before .before .before .before .before .before in
-    omega (arith, counted-smaller (s .args .kind) (s .args .scheduled .0) (s .args .entry) (λ z. omega arith) (omega arith))
+smaller : (q : tie.After-quarter-hour) → let a = start q .args in min (a .entry) (quarterHour (a .scheduled .0)) ≡ countedOf (a .kind) (a .scheduled .0) (a .entry)
+smaller q = counted-smaller _ _ _ (λ z. omega arith) (omega arith)
 
 pub counted-spec : {M : Type 1} → statement M
 counted-spec =
     tie.close
     (tie.spec
-    returns
-    returns-2
+    (λ c. counted-idle _ _ _ (c .if1 .taken))
+    (λ c. counted-deemed _ _ _ (λ z. omega arith) (λ z. omega arith))
     (λ c κs. search needs)
-    (λ c κs. search needs)
-    (λ c. search needs)
-    returns-3
-    returns-4)
+    (λ c. omega (arith, smaller (c .before .before)))
+    (λ c. omega (arith, smaller (c .before .before))))

@@ -3,7 +3,7 @@
 use Prim.Native.Nat.{ℕ, _+_, _-_, _*_, _<_, _≤_}
 use mathlib.Core.Path.{_≡_, sym, ap, _∙_}
 use native.Mathlib.Omega.{arith}
-use native.Mathlib.Nat.{mul-le-mul-left, add-mul}
+use native.Mathlib.Nat.{mul-le-mul-left, add-mul, mul-assoc}
 use Rattle.energy.specs.Energy.{portionUp, lossOn, afterLoss}
 
 pub portion-le : (x rate : ℕ) → rate ≤ 10_000 → portionUp x rate ≤ x
@@ -23,6 +23,11 @@ loss-nearest x rate = (omega arith, omega arith)
 pub loss-only : (x rate n : ℕ) → 10_000 * n ≤ x * rate + 5_000 → x * rate < 10_000 * n + 5_000 → n ≡ lossOn x rate
 unfolding lossOn
 loss-only x rate n most least = omega (arith, most, least)
+
+-- The loss on whole ten-thousands is a whole number, so that only the remainder's is rounded (document 02, F-4).
+pub loss-split : (whole rest rate : ℕ) → lossOn (10_000 * whole + rest) rate ≡ whole * rate + lossOn rest rate
+unfolding lossOn
+loss-split whole rest rate = omega (arith, add-mul (10_000 * whole) rest rate, mul-assoc 10_000 whole rate)
 
 pub loss-le : (x rate : ℕ) → rate ≤ 10_000 → lossOn x rate ≤ x
 unfolding lossOn

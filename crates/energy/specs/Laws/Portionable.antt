@@ -1,4 +1,4 @@
--- What callers of this crate's functions have to show. Assumes nothing.
+-- What callers of the charge have to show. Assumes nothing.
 use Prim.Native.Nat.{ℕ, _≤_}
 use Rattle.energy.specs.Limits.{mostRate, mostFigure}
 
