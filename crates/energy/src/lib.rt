@@ -39,15 +39,15 @@ pub fn portion_up(x: Wh, rate: u64) -> Wh
 }
 
 // An energy as whole ten-thousands of watt-hours and a remainder.
-struct Split {
+struct TenThousands {
     whole: u32,
     rest: u32,
 }
 
-fn in_ten_thousands(x: u32) -> Split
+fn in_ten_thousands(x: u32) -> TenThousands
     ensures { λ r. ⌜ (r .whole ≡ x / 10_000) × (r .rest ≡ x % 10_000) ⌝ }
 {
-    Split {
+    TenThousands {
         whole: x / 10_000,
         rest: x % 10_000,
     }
@@ -60,6 +60,6 @@ pub fn loss(x: BlockWh, rate: u32) -> BlockWh
     ensures { λ r. ⌜ r .0 ≡ lossOn (x .0) rate ⌝ }
 {
     let part = x.0;
-    let Split { whole, rest } = in_ten_thousands(part);
+    let TenThousands { whole, rest } = in_ten_thousands(part);
     BlockWh(whole * rate + (rest * rate + 5_000) / 10_000)
 }
