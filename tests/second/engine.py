@@ -435,7 +435,8 @@ class Engine:
 
     def loss(self, part, rate):
         """Rule 3, by F-3: "The licensee now rounds loss to the nearest watt-hour, halves up,
-        instead of up."
+        instead of up." By F-4 "the loss step keeps its meaning"; in how many bits it is reckoned is
+        the library's own.
         """
         return to_the_nearest(part, rate)
 

@@ -370,12 +370,14 @@ fn p9_loss_below_half_a_watt_hour() {
     );
 }
 
+/// What wind loses of an entry reading at a rate.
+fn loss(rate: u32, part: u32) -> u64 {
+    let unit = Agreement::to_one_consumer(&[1], &[1], &[rate]).opened();
+    unit.scheduled(&[1], &[1]).block(&[part], &[0]).loss[0]
+}
+
 #[test]
 fn f3_loss_to_the_nearest_halves_up() {
-    let loss = |rate, part| {
-        let unit = Agreement::to_one_consumer(&[1], &[1], &[rate]).opened();
-        unit.scheduled(&[1], &[1]).block(&[part], &[0]).loss[0]
-    };
     assert_eq!([1, 2, 3, 5].map(|part| loss(5_000, part)), [1, 1, 2, 3]);
     assert_eq!(loss(4_999, 1), 0);
     assert_eq!([4, 5, 14, 15].map(|part| loss(1_000, part)), [0, 1, 1, 2]);
@@ -402,6 +404,22 @@ fn f3_the_charge_is_still_rounded_up() {
     let mut unit = agreement.opened().scheduled(&[1], &[1]);
     unit.block(&[11], &[0]);
     assert_eq!(unit.close().charge, [2]);
+}
+
+#[test]
+fn f4_loss_where_the_product_leaves_32_bits() {
+    // 858,993 x 5,000 is within 32 bits, 858,994 x 5,000 beyond.
+    assert_eq!(
+        [858_992, 858_993, 858_994].map(|part| loss(5_000, part)),
+        [429_496, 429_497, 429_497]
+    );
+    assert_eq!(loss(22, 195_225_787), 429_497);
+    assert_eq!(
+        [9_999, 10_000].map(|part| loss(3_333, part)),
+        [3_333, 3_333]
+    );
+    assert_eq!(loss(4_999, 199_999_999), 99_980_000);
+    assert_eq!(loss(5_000, 200_000_000), 100_000_000);
 }
 
 #[test]
