@@ -457,6 +457,18 @@ class ThousandsRounded(Engine):
         return to_the_nearest(part // 1_000 * 1_000, rate) + to_the_nearest(part % 1_000, rate)
 
 
+@wrong("F-4: charge in 32 bits too, before the switch month")
+class FormerChargeIn32Bits(Engine):
+    def charge(self, record, g):
+        return rounded_up(record.pending[g] % 2**32, record.rate)
+
+
+@wrong("F-4: charge in 32 bits too, by hours")
+class ClassChargeIn32Bits(Engine):
+    def class_charge(self, record, hours, g):
+        return rounded_up(record.of_class(hours, "pending")[g] % 2**32, record.rate)
+
+
 # ---- Block: the other rules ----
 
 @wrong("each part rounded by itself")
