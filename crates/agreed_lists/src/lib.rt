@@ -1,4 +1,6 @@
 // The lists of an opening and of a schedule: their tests, and how they are read into a record's places.
+#![tactic(auto)]
+
 ghost use Rattle.std.specs.Prelude.{◌≡◌, ◌+◌, ◌<◌, ◌≤◌, length, get_or, drop};
 ghost use Rattle.lists.specs.Sums.{sum};
 ghost use Rattle.lists.specs.Tables.{table};

@@ -1,4 +1,6 @@
 // The bank: one balance a generator, with its own calls and limits (steps 1, 2 and 4 of a closing).
+#![tactic(auto)]
+
 ghost use Rattle.std.specs.Prelude.{◌≡◌, true, ◌+◌, leb};
 ghost use Rattle.energy.specs.Limits.{most_figure};
 ghost use Rattle.closing_rules.specs.Closing.{cycle_ends, lapse_due};
@@ -7,20 +9,20 @@ ghost use Rattle.bank.specs.Laws.BankSteps.{creditable, credit_of, credit_answer
 use energy::Wh;
 use record::Switch;
 
-#[derive(Drop)]
+#[derive(Clone, Copy)]
 pub struct Bank {
     pub balance: [u64; 8],
 }
 
 // the bank after a credit, and the charge on it
-#[derive(Drop)]
+#[derive(Clone, Copy)]
 pub struct Credit {
     pub bank: Bank,
     pub charge: [u64; 8],
 }
 
 // the bank after one consumer has drawn, what it drew, and what it lacks
-#[derive(Drop)]
+#[derive(Clone, Copy)]
 pub struct Draw {
     pub bank: Bank,
     pub drawn: [u64; 8],
@@ -28,7 +30,7 @@ pub struct Draw {
 }
 
 // the bank after the month's end, and what lapsed
-#[derive(Drop)]
+#[derive(Clone, Copy)]
 pub struct Lapse {
     pub bank: Bank,
     pub lapsed: [u64; 8],

@@ -1,4 +1,6 @@
 // The call `block`: rules 1 to 8 on a record.
+#![tactic(auto)]
+
 ghost use Rattle.std.specs.Prelude.{◌≡◌, length};
 ghost use Rattle.record.specs.Called.{number_on};
 ghost use Rattle.record_layout.specs.OnBytes.{CalledOn, record_in};

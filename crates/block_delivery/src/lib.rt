@@ -1,6 +1,8 @@
 // Rules 1 to 4 of a block on the record's bytes: what the entry reading of each generator delivers to each consumer. The parts of all
 // generators are gathered first, a row for each; then each list of the output is filled by a function that is lent this list's own stretch
 // and nothing else of the output. Throughout, `s` is the record's bytes, `n` and `m` are its generators and consumers, `g` and `c` one of each.
+#![tactic(auto)]
+
 ghost use Rattle.std.specs.Prelude.{◌≡◌, ℕ, ◌+◌, ◌*◌, ◌<◌, ◌≤◌, length, get_or};
 ghost use Rattle.lists.specs.Sums.{sum};
 ghost use Rattle.lists.specs.Tables.{table};
@@ -81,7 +83,7 @@ fn share_rows(s: &[u8], n: usize, entry: &[u32], parts: &mut [[u32; 16]; 8], out
 }
 
 // The energy that the loss of a pair is taken on, and the rate.
-#[derive(Drop)]
+#[derive(Clone, Copy)]
 struct Lossy {
     energy: BlockWh,
     rate: u32,

@@ -1,4 +1,6 @@
 // Rule 1 of a block for one generator and rule 4 for one pair, on numbers.
+#![tactic(auto)]
+
 ghost use Rattle.std.specs.Prelude.{◌≡◌, ◌≤◌};
 ghost use Rattle.lists.specs.Sums.{sum};
 ghost use Rattle.lists.specs.Pairs.{place};

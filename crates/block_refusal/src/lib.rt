@@ -1,4 +1,6 @@
 // The refusals of the call `block` on a sound record.
+#![tactic(auto)]
+
 ghost use Rattle.std.specs.Prelude.{◌≡◌, ◌≤◌};
 ghost use Rattle.block_rules.specs.Block.{block_number};
 ghost use Rattle.block_rules.specs.Laws.BlockRefusals.{over_limit};

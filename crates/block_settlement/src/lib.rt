@@ -1,4 +1,6 @@
 // Rules 5 to 7 of a block, consumer by consumer: each list of the output is settled or written in its own stretch, lent by itself.
+#![tactic(auto)]
+
 ghost use Rattle.std.specs.Prelude.{◌≡◌, ℕ, ◌+◌, ◌*◌, ◌≤◌, ◌<◌, length};
 ghost use Rattle.block_rules.specs.Laws.DeliveredIn.{DeliveredIn};
 ghost use Rattle.block_rules.specs.Settlement.{remainder, block_output};

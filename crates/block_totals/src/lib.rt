@@ -1,4 +1,6 @@
 // Rule 8 of a block: the counts, the totals and by hours the class of a record are raised where they stand in its bytes.
+#![tactic(auto)]
+
 ghost use Rattle.std.specs.Prelude.{◌≡◌, ◌+◌, ◌*◌, ◌≤◌, ◌<◌, length};
 ghost use Rattle.energy.specs.Limits.{most_figure};
 ghost use Rattle.output_lists.specs.Laws.Bounds.{Moderate};

@@ -1,4 +1,6 @@
 // A day of readings from a main and a check meter on the same line: which of the two is to be used, and in how many blocks they are apart.
+#![tactic(auto)]
+
 ghost use Rattle.std.specs.Prelude.{◌≡◌, length};
 ghost use Rattle.check_meter.specs.CheckMeter.{day_blocks, distance, further_apart, stretch_of, DayHandedBack};
 ghost use Rattle.check_meter.specs.Laws.DaysScanned.{found_in};
@@ -12,7 +14,7 @@ pub const DAY_BLOCKS: usize = 96;
 
 // What one pass over two days finds: whether a reading is missing in the main day, and in the check day, and in how many blocks the two are
 // apart.
-#[derive(Drop)]
+#[derive(Clone, Copy)]
 struct Found {
     main: bool,
     check: bool,
@@ -21,7 +23,7 @@ struct Found {
 
 // What two days give together: the refusal's number, whether it is the check meter's day that is to be used, and in how many blocks the two
 // are apart. Where they are refused, false and 0.
-#[derive(Drop)]
+#[derive(Clone, Copy)]
 pub struct Comparison {
     pub number: u32,
     pub check: bool,

@@ -1,5 +1,7 @@
 // The bank by hours: each generator's energy by class of hours, with its own calls and limits (steps 1, 2 and 4 of a closing from the switch month
 // on). Before, crate bank holds one balance a generator.
+#![tactic(auto)]
+
 ghost use Rattle.std.specs.Prelude.{◌≡◌, true, ◌+◌, ◌<◌, ◌≤◌, length};
 ghost use Rattle.order.specs.Laws.KeptOrder.{turns_of};
 ghost use Rattle.class_bank.specs.Laws.ClassBankSteps.{creditable, credit_of, credit_answer, draw_answer, lapse_of};
@@ -8,27 +10,27 @@ ghost use Rattle.class_bank.specs.Laws.Serving.{Gave, GaveBoth, Served, ServedAl
 use energy::Wh;
 
 // Off-peak is class 0, normal 1, peak 2. Generator g's energy of class k is number g * 3 + k.
-#[derive(Drop)]
+#[derive(Clone, Copy)]
 pub struct ClassBank {
     pub balance: [u64; 24],
 }
 
 // the bank after a credit, and the charge on it
-#[derive(Drop)]
+#[derive(Clone, Copy)]
 pub struct ClassCredit {
     pub bank: ClassBank,
     pub charge: [u64; 24],
 }
 
 // the bank after one consumer has drawn, and what it lacks of each class
-#[derive(Drop)]
+#[derive(Clone, Copy)]
 pub struct ClassDraw {
     pub bank: ClassBank,
     pub left: [u64; 3],
 }
 
 // the bank after the month's end, and what lapsed
-#[derive(Drop)]
+#[derive(Clone, Copy)]
 pub struct ClassLapse {
     pub bank: ClassBank,
     pub lapsed: [u64; 24],

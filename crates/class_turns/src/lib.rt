@@ -1,6 +1,8 @@
 // Steps 2 and 3 of a closing by hours in the words of document 02, F-7, turn after turn: each consumer in turn settles off-peak, normal, peak.
 // No call uses it. closing_by_hours finds a consumer's suppliers once and settles its three classes together, so that there no operand says
 // whose turn it is. Here one does, and an edit of it shows that another order of the turns is refused.
+#![tactic(auto)]
+
 ghost use Rattle.record_layout.specs.OnBytes.{book_in};
 ghost use Rattle.closing_by_hours.specs.Laws.HoursDrawing.{Drawable};
 ghost use Rattle.class_turns.specs.Laws.TurnsSettled.{TurnsSettled};
@@ -8,7 +10,7 @@ ghost use Rattle.class_turns.specs.Laws.TurnsSettled.{TurnsSettled};
 use class_bank::ClassBank;
 
 // the bank after all turns, and what each lacks: consumer c's turn for class k is number c * 3 + k
-#[derive(Drop)]
+#[derive(Clone, Copy)]
 pub struct Settled {
     pub bank: ClassBank,
     pub lacking: [u64; 48],

@@ -1,4 +1,6 @@
 // The call `close`: steps 1 to 4 of closing a month, on a record.
+#![tactic(auto)]
+
 ghost use Rattle.std.specs.Prelude.{◌≡◌, length};
 ghost use Rattle.record.specs.Called.{number_on};
 ghost use Rattle.record_layout.specs.OnBytes.{CalledOn, book_in, record_in};

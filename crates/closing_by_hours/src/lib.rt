@@ -1,4 +1,6 @@
 // The lists of a closing by hours, made in the slice of its output.
+#![tactic(auto)]
+
 ghost use Rattle.std.specs.Prelude.{◌≡◌, true, ◌*◌, ◌<◌, ◌≤◌, length, replicate};
 ghost use Rattle.lists.specs.Tables.{table};
 ghost use Rattle.lists.specs.Laws.TablesLaws.{filled};
@@ -59,7 +61,7 @@ fn by_generator(more: [u64; 24], less: [u64; 24], n: usize) -> [u64; 8]
 }
 
 // the bank after all consumers have drawn, and what each lacks
-#[derive(Drop)]
+#[derive(Clone, Copy)]
 struct Drawing {
     bank: ClassBank,
     supplied: [u64; 16],

@@ -1,4 +1,6 @@
 // The lists of a closing before the switch month, made in the slice of its output.
+#![tactic(auto)]
+
 ghost use Rattle.std.specs.Prelude.{◌≡◌, false, ◌*◌, length};
 ghost use Rattle.lists.specs.Pairs.{place};
 ghost use Rattle.record.specs.Plan.{suppliers};
@@ -16,7 +18,7 @@ use bank::Bank;
 use record::{Counts, Switch, Terms};
 
 // the bank after all consumers have drawn, and what each lacks
-#[derive(Drop)]
+#[derive(Clone, Copy)]
 struct Drawing {
     bank: Bank,
     supplied: [u64; 16],

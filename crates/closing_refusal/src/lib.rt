@@ -1,4 +1,6 @@
 // The refusals of the call `close` on a sound record.
+#![tactic(auto)]
+
 ghost use Rattle.std.specs.Prelude.{◌≡◌, ◌≤◌};
 ghost use Rattle.closing_rules.specs.Closing.{closing_number};
 

@@ -1,4 +1,6 @@
 // Numbers as bytes, low byte first: 4 bytes a number in the inputs, 8 in the outputs and in the record.
+#![tactic(auto)]
+
 ghost use Rattle.std.specs.Prelude.{◌≡◌, [], ◌∷◌, ◌+◌, ◌*◌, ◌≤◌, length, take, drop};
 ghost use Rattle.std.proofs.lemmas.List.Edits.{sets};
 ghost use Rattle.codec.specs.Bytes.{number, bytes, encode, decode};

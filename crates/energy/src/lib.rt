@@ -1,4 +1,6 @@
 // Capacity and energy, the loss of a pair and the bank's charge.
+#![tactic(auto)]
+
 ghost use Rattle.std.specs.Prelude.{◌≡◌, ◌≤◌, ◌/◌, ◌%◌};
 ghost use Rattle.energy.specs.Energy.{quarter_hour, portion_up, loss_on};
 ghost use Rattle.energy.specs.Laws.Portionable.{Portionable};
@@ -11,15 +13,15 @@ pub const MOST_READING: u64 = 200_000_000;
 pub const MOST_CAPACITY: u64 = 400_000;
 
 // Capacity in kW and energy in whole watt-hours are types of their own: they are never added to each other.
-#[derive(Drop)]
+#[derive(Clone, Copy)]
 pub struct Kw(pub u32);
 
 // An energy of the account, as what is pending: summed up over many blocks.
-#[derive(Drop)]
+#[derive(Clone, Copy)]
 pub struct Wh(pub u64);
 
 // An energy of one block: a reading, a part of it, a loss, or a quarter hour of a capacity. It fits 32 bits.
-#[derive(Drop)]
+#[derive(Clone, Copy)]
 pub struct BlockWh(pub u32);
 
 impl Kw {
@@ -41,7 +43,7 @@ pub fn portion_up(x: Wh, rate: u64) -> Wh
 }
 
 // An energy as whole ten-thousands of watt-hours and a remainder.
-#[derive(Drop)]
+#[derive(Clone, Copy)]
 struct TenThousands {
     whole: u32,
     rest: u32,

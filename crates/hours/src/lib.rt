@@ -1,4 +1,6 @@
 // When the bank goes by hours, and the class of a block: the tests on numbers that may be anything.
+#![tactic(auto)]
+
 ghost use Rattle.std.specs.Prelude.{◌≡◌};
 ghost use Rattle.record.specs.Hours.{slot_after, class_of_slot, hours_apply, before_switch};
 

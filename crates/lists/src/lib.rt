@@ -1,4 +1,6 @@
 // Definitions and laws of lists, sums and tests, and four small functions that the calls use.
+#![tactic(auto)]
+
 ghost use Rattle.std.specs.Prelude.{◌≡◌};
 ghost use Rattle.lists.specs.Choice.{if◌then◌else◌};
 ghost use Rattle.lists.specs.Tests.{within};

@@ -1,4 +1,6 @@
 // Opening a unit: the call's number on the display, and the first record.
+#![tactic(auto)]
+
 ghost use Rattle.std.specs.Prelude.{◌≡◌, ◌*◌, ◌≤◌, length};
 ghost use Rattle.codec.specs.Bytes.{encode};
 ghost use Rattle.energy.specs.Limits.{most_generators, most_consumers};

@@ -1,4 +1,6 @@
 // The refusals of the call `opening`. Tests are joined by & and |, which do not branch.
+#![tactic(auto)]
+
 ghost use Rattle.std.specs.Prelude.{◌≡◌};
 ghost use Rattle.agreement_rules.specs.Opening.{asked, sizes_fit, terms_fit, opening_refusal};
 

@@ -1,4 +1,6 @@
 // Lists of a call's output, each put into its own stretch of the slice, whole or by column.
+#![tactic(auto)]
+
 ghost use Rattle.std.specs.Prelude.{◌≡◌, ◌+◌, ◌*◌, ◌<◌, ◌≤◌, length, get_or};
 ghost use Rattle.lists.specs.Tables.{table};
 ghost use Rattle.output_lists.specs.Laws.ListPut.{Put};

@@ -1,7 +1,8 @@
 // The record of one unit, as the calls take and return it by value: 8 and 16 places always, every number a u64.
+#![tactic(auto)]
 
 // counts of generators and consumers, and the bank's terms: fixed at opening
-#[derive(Drop)]
+#[derive(Clone, Copy)]
 pub struct Terms {
     pub generators: u64,
     pub consumers: u64,
@@ -10,7 +11,7 @@ pub struct Terms {
 }
 
 // months gone in the cycle, blocks of the unit, blocks of the month
-#[derive(Drop)]
+#[derive(Clone, Copy)]
 pub struct Counts {
     pub gone: u64,
     pub unitblocks: u64,
@@ -18,7 +19,7 @@ pub struct Counts {
 }
 
 // what is agreed of each generator
-#[derive(Drop)]
+#[derive(Clone, Copy)]
 pub struct Agreed {
     pub kind: [u64; 8],
     pub installed: [u64; 8],
@@ -26,21 +27,21 @@ pub struct Agreed {
 }
 
 // what is agreed of each pair; a pair list has 16 places a row
-#[derive(Drop)]
+#[derive(Clone, Copy)]
 pub struct Links {
     pub link: [u64; 128],
     pub loss: [u64; 128],
 }
 
 // the schedule that stands
-#[derive(Drop)]
+#[derive(Clone, Copy)]
 pub struct Schedule {
     pub kw: [u64; 128],
     pub rank: [u64; 128],
 }
 
 // the terms of the generator equation, in its order; document 01's loss is lost here
-#[derive(Drop)]
+#[derive(Clone, Copy)]
 pub struct Generators {
     pub injected: [u64; 8],
     pub unaccounted: [u64; 8],
@@ -55,7 +56,7 @@ pub struct Generators {
 }
 
 // the terms of the consumer equation, in its order; document 01's open is outstanding here
-#[derive(Drop)]
+#[derive(Clone, Copy)]
 pub struct Consumers {
     pub metered: [u64; 16],
     pub setoff: [u64; 16],
@@ -66,21 +67,21 @@ pub struct Consumers {
 }
 
 // the switch month of the bank by hours, 0 for never, and the closings done since the opening
-#[derive(Drop)]
+#[derive(Clone, Copy)]
 pub struct Switch {
     pub month: u64,
     pub closings: u64,
 }
 
 // what is held of one class of hours: bank and pending by generator, open by consumer
-#[derive(Drop)]
+#[derive(Clone, Copy)]
 pub struct Stocks {
     pub bank: [u64; 8],
     pub pending: [u64; 8],
     pub outstanding: [u64; 16],
 }
 
-#[derive(Drop)]
+#[derive(Clone, Copy)]
 pub struct Record {
     pub terms: Terms,
     pub counts: Counts,
@@ -96,14 +97,14 @@ pub struct Record {
 }
 
 // what a call returns: its number on the display, and the record after it
-#[derive(Drop)]
+#[derive(Clone, Copy)]
 pub struct Answer {
     pub number: u32,
     pub after: Record,
 }
 
 // one generator's terms, named as in Generators
-#[derive(Drop)]
+#[derive(Clone, Copy)]
 pub struct GeneratorTerms {
     pub injected: u64,
     pub unaccounted: u64,
@@ -118,7 +119,7 @@ pub struct GeneratorTerms {
 }
 
 // one consumer's terms, named as in Consumers
-#[derive(Drop)]
+#[derive(Clone, Copy)]
 pub struct ConsumerTerms {
     pub metered: u64,
     pub setoff: u64,

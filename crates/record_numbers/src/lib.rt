@@ -1,4 +1,6 @@
 // One number of the record, read, written or raised where it stands in the bytes.
+#![tactic(auto)]
+
 ghost use Rattle.std.specs.Prelude.{◌≡◌, ◌+◌, ◌<◌, length, get_or, set};
 ghost use Rattle.record_places.specs.RecordSize.{record_numbers, record_bytes, words_in};
 

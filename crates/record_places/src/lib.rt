@@ -1,5 +1,7 @@
 // The record's size, and where each number of the terms and the counts stands and each list starts, counted in numbers. The same names for
 // contracts and proofs are in specs/; crate record has the laws that tie them to the runs of the record.
+#![tactic(auto)]
+
 pub const RECORD_NUMBERS: usize = 817;
 
 // Every number has 8 bytes, low byte first.

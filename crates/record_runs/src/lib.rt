@@ -1,5 +1,7 @@
 // Numbers of a record's bytes changed where they stand: raised by the numbers of a list, or by the sums of its rows and columns, or
 // replaced.
+#![tactic(auto)]
+
 ghost use Rattle.std.specs.Prelude.{◌≡◌, ◌+◌, ◌*◌, ◌≤◌, ◌<◌, length, get_or};
 ghost use Rattle.output_lists.specs.Laws.Bounds.{Moderate};
 ghost use Rattle.record_layout.specs.Laws.NumbersRaised.{from};

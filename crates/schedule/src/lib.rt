@@ -1,4 +1,6 @@
 // Giving a unit a schedule: the call's number on the display, and the new schedule in the record's bytes.
+#![tactic(auto)]
+
 ghost use Rattle.std.specs.Prelude.{◌≡◌, [], length, get_or};
 ghost use Rattle.lists.specs.Pairs.{cell, pairs};
 ghost use Rattle.codec.specs.Bytes.{encode};

@@ -1,4 +1,6 @@
 // The refusals of the call `schedule` on a sound record. Tests are joined by & and |, which do not branch.
+#![tactic(auto)]
+
 ghost use Rattle.std.specs.Prelude.{◌≡◌, ◌&&◌, ◌+◌, ◌*◌, ◌<◌, ◌≤◌, eqb, ltb, get_or};
 ghost use Rattle.lists.specs.Tests.{some};
 ghost use Rattle.energy.specs.Limits.{most_generators, most_consumers};

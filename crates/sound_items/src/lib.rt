@@ -1,6 +1,8 @@
 // The tests of soundness at one place: of what is agreed and scheduled, of the counts, of a generator's and a consumer's totals, of the switch and
 // the classes of hours. Every number of the record is arbitrary, so a term is capped before it is added, or the sum is tested for having wrapped;
 // tests are joined by & and |, which do not branch.
+#![tactic(auto)]
+
 ghost use Rattle.std.specs.Prelude.{◌≡◌, ◌+◌, ◌≤◌, true};
 ghost use Rattle.record.specs.Sound.{agreed_sound, pair_sound, generator_sound, consumer_sound, switch_sound, classes_sound};
 ghost use Rattle.sound_items.specs.Laws.SoundTests.{counts_test};

@@ -1,5 +1,7 @@
 // The test of soundness on the record's bytes, each number read where it stands; crate sound_items tests what was read.
 // Tests are joined by & and |, which do not branch.
+#![tactic(auto)]
+
 ghost use Rattle.std.specs.Prelude.{◌≡◌, true, false, ◌+◌, ◌*◌, ◌<◌, ◌≤◌, ltb, length};
 ghost use Rattle.lists.specs.Tests.{all};
 ghost use Rattle.energy.specs.Limits.{most_generators, most_consumers, most_unit_blocks};

@@ -1,4 +1,6 @@
 // The reader of the readings table: names line, value lines, and the values laid into the caller's output.
+#![tactic(auto)]
+
 ghost use Rattle.std.specs.Prelude.{◌≡◌, true, ◌/◌, ◌<◌, length, take};
 ghost use Rattle.table.specs.Table.{numbers, same, well_formed, in_range, from_start, ReadMeets};
 ghost use Rattle.table.specs.Laws.ReaderParts.{Writable, LinesMeet, names_length};
@@ -7,7 +9,7 @@ use table_scan::Progress;
 use table_text::{put_names, separator_after};
 
 // What reading a table gives: the number of value lines, or a number on the display.
-#[derive(Drop)]
+#[derive(Clone, Copy)]
 pub enum Read {
     Lines(usize),
     Refused(u32),

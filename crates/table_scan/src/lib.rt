@@ -1,10 +1,12 @@
 // The reader's steps over the value lines, one byte after the other.
+#![tactic(auto)]
+
 ghost use Rattle.std.specs.Prelude.{◌≡◌, ◌<◌};
 ghost use Rattle.table_scan.specs.Values.{is_digit};
 ghost use Rattle.table_scan.specs.Laws.Scan.{add_digit, first_byte, later_byte, next_byte, values_ended, whole_lines, value_so_far};
 
 // How far the reading of one value has come: not begun, some digits, or a byte that cannot stand there.
-#[derive(Drop)]
+#[derive(Clone, Copy)]
 pub enum Progress {
     Start,
     Digits(u32),

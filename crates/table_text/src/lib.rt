@@ -1,4 +1,6 @@
 // How a readings table is written: decimal values, separators and the names line, laid as bytes into a buffer.
+#![tactic(auto)]
+
 ghost use Rattle.std.specs.Prelude.{◌≡◌, ◌+◌, ◌*◌, ◌<◌, ◌≤◌, length};
 ghost use Rattle.table_text.specs.TableText.{decimal, separator_after, printed, name, names_line};
 ghost use Rattle.table_text.specs.Laws.Laying.{Put, Room};

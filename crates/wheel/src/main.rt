@@ -1,4 +1,6 @@
 // Program `wheel`: prints what `report` gives for standard input. One byte past 64 KiB is enough to tell that the input is too long.
+#![tactic(auto)]
+
 ghost use Rattle.wheel_rules.specs.Display.{account_text, display};
 ghost use Rattle.wheel_print.specs.Printing.{Shows};
 

@@ -1,4 +1,6 @@
 // The input of program `wheel`: the table of agreement A, in at most 64 KiB.
+#![tactic(auto)]
+
 ghost use Rattle.std.specs.Prelude.{◌≡◌, length};
 ghost use Rattle.wheel_rules.specs.Display.{space};
 ghost use Rattle.wheel_input.specs.Laws.Input.{InputRead};

@@ -1,6 +1,8 @@
 // The calls of program `wheel`: agreement A, each line of a table as a block under it, and the closing. They work on the record's bytes: by
 // value the record would be copied with every line.
 // A function with a `requires` is called in this crate only, where it is met.
+#![tactic(auto)]
+
 ghost use Rattle.std.specs.Prelude.{◌≡◌, [], ◌∷◌, ◌++◌, length};
 ghost use Rattle.record_layout.specs.OnBytes.{book_in, record_in};
 ghost use Rattle.agreement_rules.specs.Opening.{opened};

@@ -1,4 +1,6 @@
 // What program `wheel` prints: a word, and a line of values after it.
+#![tactic(auto)]
+
 ghost use Rattle.std.specs.Prelude.{◌++◌, ◌+◌, ◌*◌, ◌≤◌, length};
 ghost use Rattle.table_text.specs.TableText.{printed};
 ghost use Rattle.table_text.specs.Laws.Laying.{Put, Room};
@@ -9,7 +11,7 @@ ghost use Rattle.wheel_print.specs.Printing.{Shows};
 use record::Generators;
 
 // What is to be printed: the first size bytes.
-#[derive(Drop)]
+#[derive(Clone, Copy)]
 pub struct Printed {
     pub bytes: [u8; 320],
     pub size: usize,

@@ -1,4 +1,6 @@
 // The calls of a C host. Every list is bytes, low byte first: 4 a number in the inputs, 8 in the outputs and in the record.
+#![tactic(auto)]
+
 ghost use Rattle.std.specs.Prelude.{◌≡◌, length};
 ghost use Rattle.block_rules.specs.Block.{block_rule};
 ghost use Rattle.wheeling_rules.specs.Wheeling.{numbers_in, ByRule, opening_in, ByteOpened, ByteScheduled, ByteBlocked, ByteClosed};

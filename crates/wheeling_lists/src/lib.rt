@@ -1,4 +1,6 @@
 // What a C call is handed and hands back: lists as bytes, low byte first, 4 a number in the inputs and 8 in the outputs.
+#![tactic(auto)]
+
 ghost use Rattle.std.specs.Prelude.{◌≡◌, ◌*◌, ◌≤◌, length, take};
 ghost use Rattle.wheeling_rules.specs.Wheeling.{numbers_in};
 ghost use Rattle.wheeling_rules.specs.Laws.BytesRead.{Taken, Room, Written};

@@ -1,0 +1,18 @@
+-- `block_delivery::kw_row` is row g of the schedule. Assumes nothing.
+use Prim.Native.Nat.{◌-◌}
+use borrow.Author.Rules.{rules}
+use Rattle.lists.specs.Laws.TablesLaws.{Filling, fill_start, fill_step, fill_done}
+use Rattle.record_layout.specs.OnBytes.{plan_in}
+use Rattle.block_delivery.proofs.kw_row.Goals as goal
+
+pub kw_at-requires : goal.kw_at-requires
+kw_at-requires c = (search rules, (search rules, (search rules, c.requires.1.1 c.loop-c.c)))
+
+pub loop-c-preserved : goal.loop-c-preserved
+loop-c-preserved c = fill_step c.loop-c.invariant (search rules) c.kw_at.ensures
+
+pub loop-c-init : goal.loop-c-init
+loop-c-init c = fill_start (search rules)
+
+pub returns : goal.returns
+returns c = fill_done c.loop-c.invariant (search rules)

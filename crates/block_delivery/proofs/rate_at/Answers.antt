@@ -1,0 +1,16 @@
+-- `block_delivery::rate_at` reads the pair's loss rate, which fits 32 bits, since it is not over its limit. Assumes nothing.
+use mathlib.Core.Path.{◌≡◌, sym, ◌∙◌}
+use native.Mathlib.Omega.{arith}
+use borrow.Author.Rules.{rules}
+use Rattle.record_layout.specs.OnBytes.{plan_in}
+use Rattle.record_layout.specs.Laws.PairPlaces.{loss_at_lem}
+use Rattle.block_delivery.proofs.rate_at.Goals as goal
+
+read : (c : goal.After-number_at) → c.number_at.result ≡ (plan_in c.args.s.now).loss c.args.g c.args.c
+read c = let s = c.before.before in c.number_at.ensures ∙ sym (loss_at_lem s.args.s.now s.args.g s.args.c (search rules) (search rules))
+
+pub overflow_cast-result : goal.overflow_cast-result
+overflow_cast-result c = let s = c.before.before in omega (arith, read c, s.requires.1.1.1 s.args.g s.args.c)
+
+pub returns : goal.returns
+returns c = read c

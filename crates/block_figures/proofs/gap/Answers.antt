@@ -1,0 +1,22 @@
+-- `block_figures::gap` is rule 4 less what is delivered: each difference is exact. Assumes nothing.
+use native.Mathlib.Omega.{arith}
+use borrow.Author.Rules.{rules}
+use Rattle.energy.specs.Laws.EnergyLaws.{loss_le}
+use Rattle.block_figures.specs.Laws.GapLaws.{gap_deemed, gap_scheduled}
+use Rattle.block_figures.proofs.gap.Goals as goal
+
+pub returns-then-kind-eq0 : goal.returns-then-kind-eq0
+returns-then-kind-eq0 c =
+    let s = c.before.before.before.before in
+    omega (arith, gap_scheduled s.args.kind s.args.scheduled.0 s.args.rate s.args.delivered (omega arith))
+
+pub overflow_sub-result : goal.overflow_sub-result
+overflow_sub-result c =
+    let s = c.before.before.before.before in
+    omega (arith, loss_le s.args.scheduled.0 s.args.rate (omega arith))
+
+pub overflow_sub-result-then-kind-eq0 : goal.overflow_sub-result-then-kind-eq0
+overflow_sub-result-then-kind-eq0 c = let s = c.before.before.before.before in omega (arith, s.requires.1 (omega arith))
+
+pub returns-then-kind-eq0 : goal.returns
+returns-then-kind-eq0 c = gap_deemed _ _ _ _ (λ z. omega arith)

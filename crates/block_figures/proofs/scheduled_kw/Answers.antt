@@ -1,0 +1,35 @@
+-- `block_figures::scheduled_kw` is the sum of the row, and no sum on the way is over the limit. Assumes nothing.
+use Prim.Native.Nat.{ℕ, ◌+◌, ◌-◌, ◌≤◌}
+use mathlib.Core.Path.{◌≡◌, sym, ◌∙◌, ap}
+use native.Mathlib.Omega.{arith}
+use borrow.Author.Rules.{rules}
+use lib.ListN.{get_or}
+use Rattle.lists.specs.Pairs.{place}
+use Rattle.lists.specs.Laws.PairsLaws.{place_in}
+use Rattle.lists.specs.Sums as sums
+use Rattle.lists.specs.Sums.{sum}
+use Rattle.lists.specs.Laws.SumsLaws.{sum_none, sum_more, sum_to}
+use Rattle.block_figures.proofs.scheduled_kw.Goals as goal
+
+-- the sum with consumer c, as the code has it
+sum_next :
+    (c : goal.In-loop-c) →
+    c.loop-c.sum + get_or c.args.t1 c.loop-c.c 0 ≡ sum (c.loop-c.c + 1) (place 16 c.args.t1)
+sum_next c =
+    let row = c.args.t1 in
+    let i = c.loop-c.c in
+    omega (arith, sum_more i (place 16 row), place_in 16 row i (omega arith))
+
+pub loop-c-init : goal.loop-c-init
+loop-c-init c = (search rules, sym (sum_none _))
+
+pub overflow_add-sum : goal.overflow_add-sum
+overflow_add-sum c = omega (arith, sum_next c, sum_to (c.loop-c.c + 1) 16 (place 16 c.args.t1) (omega arith))
+
+pub loop-c-preserved : goal.loop-c-preserved
+loop-c-preserved c = (search rules, sum_next c)
+
+pub returns : goal.returns
+returns c =
+    let l = c.before in
+    l.loop-c.invariant.1 ∙ ap (λ (k : ℕ). sum k (place 16 l.args.t1)) (omega arith)

@@ -1,0 +1,40 @@
+-- `block_settlement::settle_each` meets its contract: c consumers are settled. Assumes nothing.
+use Prim.Native.Nat.{ℕ, ◌-◌, ◌≤◌, ◌<◌}
+use mathlib.Core.Path.{◌≡◌, refl, sym, ◌∙◌}
+use native.Mathlib.Omega.{arith}
+use borrow.Author.Rules.{rules}
+use lib.ListN.{length, length-set}
+use Rattle.lists.specs.Laws.PairsLaws.{place_in}
+use Rattle.block_rules.specs.Laws.DeliveredIn.{DeliveredIn}
+use Rattle.record_layout.specs.OnBytes.{plan_in}
+use Rattle.block_settlement.specs.Laws.SettlementLent.{exits_in}
+use Rattle.block_settlement.specs.Laws.SettledTo.{SettledTo, Remainders}
+use Rattle.block_settlement.specs.Laws.SettledLaws.{settled_start, one_remainder}
+use Rattle.block_settlement.proofs.settle_each.Goals as goal
+
+pub loop-c-init : goal.loop-c-init
+loop-c-init c =
+    let z = c.requires.1.1.1 in
+    (λ E d. (settled_start _ E _ d, record { is = λ c l. absurd (omega arith) }), (search rules, (refl, z)))
+
+pub loop-c-preserved : goal.loop-c-preserved
+loop-c-preserved c =
+    let one = c.before.before in
+    let turn = one.before.before.before.before in
+    let l = turn.loop in
+    let start = turn.before.before.before.before.before in
+    let s = start.args.s.now in
+    let ranked = start.requires.0 in
+    let inside : l.c < (plan_in s).C = omega (arith, turn.loop-c-test.true, ranked.m_is) in
+    let within : l.c < length l.rests = omega (arith, turn.loop-c-test.true, ranked.m_high, l.invariant.1.1.1) in
+    let read = one.wide.ensures ∙ sym (place_in (plan_in s).C start.args.exit.now l.c inside) in
+    let done = one.settle_one.ensures in (
+      λ E d. let both = done E _ read (l.invariant.0 E d).0 in (both.0, one_remainder _ E _ (l.invariant.0 E d).1 within both.1),
+      (omega (arith, turn.loop-c-test.true), (one.settle_one.auto.1.1.1.1.1.0 ∙ l.invariant.1.1.0, simp length-set l.invariant.1.1.1)),
+    )
+
+pub returns : goal.returns
+returns c =
+    let l = c.loop in
+    let m_is : l.c ≡ c.args.m = omega (arith, l.invariant.1.0) in
+    (l.invariant.1.1.1, λ E d. rw m_is at (l.invariant.0 E d))

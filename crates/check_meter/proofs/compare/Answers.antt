@@ -1,0 +1,17 @@
+-- `check_meter::compare` makes the tests in their order. Assumes nothing.
+use mathlib.Core.Path.{◌∙◌}
+use borrow.Author.Rules.{rules}
+use Rattle.check_meter.specs.Laws.DaysCompared.{not_of_96, both_of_96, compared}
+use Rattle.check_meter.proofs.compare.Goals as goal
+
+pub returns-then-main-check : goal.returns-then-main-check
+returns-then-main-check c = c.tell.ensures ∙ not_of_96 _ _ _ c.if-main-check.true
+
+pub scan-found-requires : goal.scan-found-requires
+scan-found-requires c = both_of_96 c.if-main-check.false
+
+pub returns-then-main-check : goal.returns
+returns-then-main-check c =
+    let numbered = c.before in
+    let passed = numbered.before in
+    c.tell-2.ensures ∙ compared _ _ _ passed.if-main-check.false passed.scan-found.ensures numbered.first-number.ensures

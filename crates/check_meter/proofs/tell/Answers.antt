@@ -1,0 +1,6 @@
+-- `check_meter::tell` tells a count only where the number is 0. Assumes nothing.
+use borrow.Author.Rules.{rules}
+use Rattle.check_meter.proofs.tell.Goals as goal
+
+pub returns : goal.returns
+returns c = rw c.first.ensures

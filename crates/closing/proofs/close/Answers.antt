@@ -1,0 +1,38 @@
+-- `closing::close` meets its contract: the call on the record's bytes is the call on the record.
+use mathlib.Core.Path.{refl, sym, ◌∙◌}
+use Rattle.record_layout.specs.Laws.OnBytesLaws.{on_struct}
+use Rattle.closing_rules.specs.Laws.ClosingLaws.{closing_keeps}
+use Rattle.closing.proofs.close.Goals as goal
+
+pub slice_bounds-store-end : goal.slice_bounds-store-end
+slice_bounds-store-end c = refl
+
+pub store-requires : goal.store-requires
+store-requires c = refl
+
+pub slice_bounds-close_on-end : goal.slice_bounds-close_on-end
+slice_bounds-close_on-end c = sym c.store.auto.1.0
+
+pub close_on-number-requires : goal.close_on-number-requires
+close_on-number-requires c = c.store.auto.1.0
+
+pub slice_bounds-load-end : goal.slice_bounds-load-end
+slice_bounds-load-end c =
+    let closed = c.before.before.before.before in
+    let filled = closed.before.before.before.before in
+    sym (closed.close_on-number.auto.0 ∙ filled.store.auto.1.0)
+
+pub load-after-requires : goal.load-after-requires
+load-after-requires c =
+    let closed = c.before.before.before.before in
+    let filled = closed.before.before.before.before in
+    closed.close_on-number.auto.0 ∙ filled.store.auto.1.0
+
+pub shape_of-out : goal.shape_of-out
+shape_of-out c = c.close_on-number.auto.1.0
+
+pub returns : goal.returns
+returns c =
+    let closed = c.before.before.before.before.before in
+    let filled = closed.before.before.before.before in
+    on_struct _ _ (closing_keeps _) filled.store.ensures.1 c.load-after.ensures closed.close_on-number.ensures

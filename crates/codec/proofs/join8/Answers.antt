@@ -1,0 +1,9 @@
+-- `codec::join8` meets its contract: the weights are the powers of 256. Assumes nothing.
+use native.Mathlib.Omega.{arith}
+use borrow.Author.Rules.{rules}
+use Rattle.codec.specs.Bytes.{number}
+use Rattle.codec.proofs.join8.Goals as goal
+
+pub returns : goal.returns
+unfolding number
+returns c = omega arith

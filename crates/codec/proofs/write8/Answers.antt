@@ -1,0 +1,10 @@
+-- `codec::write8` meets its contract: the numbers put from place 0 on fill the slice. Assumes nothing.
+use native.Mathlib.Omega.{arith}
+use borrow.Author.Rules.{rules}
+use Rattle.codec.specs.Laws.BytesPut.{put_all}
+use Rattle.codec.proofs.write8.Goals as goal
+
+pub returns : goal.returns
+returns c =
+    let call = c.before.before in
+    put_all call.put8s.ensures (omega (arith, call.put8s.auto.1.0))

@@ -1,0 +1,15 @@
+-- `opening::opening` meets its contract: the record of an accepted opening is read back from the bytes, a refused one gives zeros. Assumes nothing.
+use borrow.Author.Rules.{rules}
+use Rattle.agreement_rules.specs.Laws.AgreedPartsLaws.{opening_refused}
+use Rattle.opening.specs.Laws.OpenedOnLaws.{opened_back}
+use Rattle.opening.proofs.opening.Goals as goal
+
+pub returns-then-number-eq0 : goal.returns-then-number-eq0
+returns-then-number-eq0 c =
+    let branch = c.before.before in
+    opened_back branch.opening_on-number.ensures branch.if-number-eq0.true c.load-after.ensures
+
+pub returns-else-number-eq0 : goal.returns-else-number-eq0
+returns-else-number-eq0 c =
+    let branch = c.before in
+    opening_refused branch.if-number-eq0.false branch.opening_on-number.ensures.number_is c.zero_record-after.ensures

@@ -1,0 +1,23 @@
+-- `output_lists::write_list` meets its contract: each place passed holds the number of `xs` at that place.
+use Prim.Native.Nat.{◌-◌}
+use mathlib.Core.Path.{refl}
+use lib.ListN.{length, get_or}
+use Rattle.lists.specs.Laws.TablesLaws.{Filling, fill_start, fill_step, fill_length, fill_done}
+use native.Mathlib.Omega.{arith}
+use borrow.Author.Rules.{rules}
+use Rattle.output_lists.proofs.write_list.Goals as goal
+
+pub loop-i-init : goal.loop-i-init
+loop-i-init c = fill_start refl
+
+pub bounds-out-i : goal.bounds-out-i
+bounds-out-i c = omega (arith, fill_length c.loop-i.invariant)
+
+pub loop-i-preserved : goal.loop-i-preserved
+loop-i-preserved c = fill_step c.loop-i.invariant (search rules) refl
+
+pub shape_of-out : goal.shape_of-out
+shape_of-out c = fill_length c.loop-i.invariant
+
+pub returns : goal.returns
+returns c = fill_done c.loop-i.invariant (search rules)

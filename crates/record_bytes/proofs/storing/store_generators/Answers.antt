@@ -1,0 +1,64 @@
+-- `record_bytes::storing::store_generators` meets its contract: the runs are put one after the other. Assumes nothing.
+use native.Mathlib.Omega.{arith}
+use borrow.Author.Rules.{rules}
+use Rattle.lists.specs.Pairs.{joined}
+use Rattle.record_layout.specs.Laws.Layout.{laid_run, laid_then, laid_last}
+use Rattle.record_bytes.proofs.storing.store_generators.Goals as goal
+
+-- the call that stored a list, seen from the one that stored the next; where the function started, seen from the last
+abbrev one : goal.After-store_run-2 → goal.After-store_run
+one c = c.before.before.before.before.before.before.before
+
+abbrev two : goal.After-store_run-3 → goal.After-store_run-2
+two c = c.before.before.before.before.before.before.before
+
+abbrev three : goal.After-store_run-4 → goal.After-store_run-3
+three c = c.before.before.before.before.before.before.before
+
+abbrev four : goal.After-store_run-5 → goal.After-store_run-4
+four c = c.before.before.before.before.before.before.before
+
+abbrev five : goal.After-store_run-6 → goal.After-store_run-5
+five c = c.before.before.before.before.before.before.before
+
+abbrev six : goal.After-store_run-7 → goal.After-store_run-6
+six c = c.before.before.before.before.before.before.before
+
+abbrev seven : goal.After-store_run-8 → goal.After-store_run-7
+seven c = c.before.before.before.before.before.before.before
+
+abbrev eight : goal.After-store_run-9 → goal.After-store_run-8
+eight c = c.before.before.before.before.before.before.before
+
+abbrev nine : goal.After-store_run-10 → goal.After-store_run-9
+nine c = c.before.before.before.before.before.before.before
+
+abbrev start : goal.After-store_run-10 → goal.Start
+start c = (one (two (three (four (five (six (seven (eight (nine c))))))))).before.before.before.before.before.before
+
+pub shape_of-s : goal.shape_of-s
+shape_of-s c = let last = c.before.before in omega (arith, last.store_run-10.ensures.size, (start last).requires)
+
+pub returns : goal.returns
+unfolding joined
+returns c =
+    let c10 = c.before.before in
+    let c9 = nine c10 in
+    let c8 = eight c9 in
+    let c7 = seven c8 in
+    let c6 = six c7 in
+    let c5 = five c6 in
+    let c4 = four c5 in
+    let c3 = three c4 in
+    let c2 = two c3 in
+    let c1 = one c2 in
+    laid_then (laid_run c1.store_run-arg-2-1.given.0 c1.store_run.ensures)
+    (laid_then (laid_run c2.store_run-arg-5-1.given.0 c2.store_run-2.ensures)
+    (laid_then (laid_run c3.store_run-arg-8-1.given.0 c3.store_run-3.ensures)
+    (laid_then (laid_run c4.store_run-arg-11-1.given.0 c4.store_run-4.ensures)
+    (laid_then (laid_run c5.store_run-arg-14-1.given.0 c5.store_run-5.ensures)
+    (laid_then (laid_run c6.store_run-arg-17-1.given.0 c6.store_run-6.ensures)
+    (laid_then (laid_run c7.store_run-arg-20-1.given.0 c7.store_run-7.ensures)
+    (laid_then (laid_run c8.store_run-arg-23-1.given.0 c8.store_run-8.ensures)
+    (laid_then (laid_run c9.store_run-arg-26-1.given.0 c9.store_run-9.ensures)
+    (laid_last (laid_run c10.store_run-arg-29-1.given.0 c10.store_run-10.ensures))))))))))

@@ -1,0 +1,12 @@
+-- `record_numbers::add_at` meets its contract: the sum with w is written where the number stands. Assumes nothing.
+use mathlib.Core.Path.{ap, ◌∙◌}
+use lib.ListN.{set}
+use borrow.Author.Rules.{rules}
+use Rattle.record_places.specs.RecordSize.{words_in}
+use Rattle.record_numbers.proofs.add_at.Goals as goal
+
+pub returns : goal.returns
+returns c =
+    let summed = c.before.before.before.before in
+    let a = summed.args in
+    c.put_at.ensures.0 ∙ ap (set (words_in a.s-1.now) a.k) summed.sum_at-sum.ensures

@@ -1,0 +1,25 @@
+-- `record_runs::clear_numbers` meets its contract: the numbers passed are 0. Assumes nothing.
+use Prim.Native.Nat.{◌-◌, ◌≤◌}
+use mathlib.Core.Path.{refl, ◌∙◌}
+use native.Mathlib.Omega.{arith}
+use borrow.Author.Rules.{rules}
+use Rattle.record_layout.specs.Laws.NumbersRaised.{from}
+use Rattle.record_runs.specs.Laws.Raise.{Replaced}
+use Rattle.record_runs.specs.Laws.RaiseLaws.{none_replaced, one_replaced, all_replaced}
+use Rattle.record_runs.proofs.clear_numbers.Goals as goal
+
+pub loop-k-init : goal.loop-k-init
+loop-k-init c = (omega arith, none_replaced)
+
+pub put_at-requires : goal.put_at-requires
+put_at-requires c = let l = c.loop in
+    let able = c.requires in
+    (l.invariant.1.size ∙ able.size, omega (arith, able.placed))
+
+pub loop-k-preserved : goal.loop-k-preserved
+loop-k-preserved c = let call = c.before.before in
+    let l = call.loop in
+    (omega arith, one_replaced l.invariant.1 refl call.put_at.auto.0 call.put_at.ensures.0)
+
+pub returns : goal.returns
+returns c = all_replaced c.loop-k.invariant.1 (omega arith)

@@ -1,0 +1,31 @@
+-- `record_runs::raise_columns` meets its contract: the numbers passed are raised by the sums of their columns. Assumes nothing.
+use Prim.Native.Nat.{◌-◌, ◌≤◌}
+use mathlib.Core.Path.{◌∙◌}
+use native.Mathlib.Omega.{arith}
+use borrow.Author.Rules.{rules}
+use Rattle.record_layout.specs.Laws.NumbersRaised.{from}
+use Rattle.record_runs.specs.Laws.Raise.{column_sum, Raised}
+use Rattle.record_runs.specs.Laws.RaiseLaws.{none_raised, one_more, all_raised, next_low, column_cap}
+use Rattle.record_runs.proofs.raise_columns.Goals as goal
+
+pub loop-c-init : goal.loop-c-init
+loop-c-init c = (omega arith, none_raised)
+
+pub column_sum-requires : goal.column_sum-requires
+column_sum-requires c = let start = c.before.before.before.before.before in (start.requires.1.0, (omega arith, start.requires.1.1))
+
+pub add_at-requires : goal.add_at-requires
+add_at-requires c =
+    let at-loop = c.before.before.before in
+    let start = at-loop.before.before.before in
+    let l = at-loop.loop in
+    let able = start.requires.0 in
+    (l.invariant.1.size ∙ able.size, (omega (arith, able.placed), omega (arith, next_low able l.invariant.1, c.column_sum.ensures, column_cap start.args.n start.args.m start.args.first l.c start.requires.1.1.1)))
+
+pub loop-c-preserved : goal.loop-c-preserved
+loop-c-preserved c = let call = c.before.before in
+    let l = call.loop in
+    (omega arith, one_more l.invariant.1 call.column_sum.ensures call.add_at.auto.0 call.add_at.ensures)
+
+pub returns : goal.returns
+returns c = all_raised c.loop-c.invariant.1 (omega arith)

@@ -1,0 +1,29 @@
+-- `record_runs::raise_numbers` meets its contract: the numbers passed are raised. Assumes nothing.
+use Prim.Native.Nat.{◌+◌, ◌-◌, ◌≤◌}
+use mathlib.Core.Path.{◌∙◌, refl}
+use native.Mathlib.Omega.{arith}
+use lib.ListN.{get_or}
+use borrow.Author.Rules.{rules}
+use Rattle.record_layout.specs.Laws.NumbersRaised.{from}
+use Rattle.record_runs.specs.Laws.Raise.{Raised}
+use Rattle.record_runs.specs.Laws.RaiseLaws.{none_raised, one_more, all_raised, next_low}
+use Rattle.record_runs.proofs.raise_numbers.Goals as goal
+
+pub loop-i-init : goal.loop-i-init
+loop-i-init c = (omega arith, none_raised)
+
+pub add_at-requires : goal.add_at-requires
+add_at-requires c =
+    let at-loop = c.before.before.before in
+    let start = at-loop.before.before.before in
+    let l = at-loop.loop in
+    let able = start.requires.0 in
+    (l.invariant.1.size ∙ able.size, (omega (arith, able.placed), omega (arith, next_low able l.invariant.1, start.requires.1.1.at (start.args.first + l.i))))
+
+pub loop-i-preserved : goal.loop-i-preserved
+loop-i-preserved c = let call = c.before.before in
+    let l = call.loop in
+    (omega arith, one_more l.invariant.1 refl call.add_at.auto.0 call.add_at.ensures)
+
+pub returns : goal.returns
+returns c = all_raised c.loop-i.invariant.1 (omega arith)

@@ -1,0 +1,33 @@
+-- `record_runs::raise_rows` meets its contract: the numbers passed are raised by the sums of their rows. Assumes nothing.
+use Prim.Native.Nat.{◌-◌, ◌≤◌}
+use mathlib.Core.Path.{◌∙◌}
+use native.Mathlib.Omega.{arith}
+use borrow.Author.Rules.{rules}
+use Rattle.record_layout.specs.Laws.NumbersRaised.{from}
+use Rattle.record_runs.specs.Laws.Raise.{row_sum, Raised}
+use Rattle.record_runs.specs.Laws.RaiseLaws.{row_within, none_raised, one_more, all_raised, next_low, row_cap}
+use Rattle.record_runs.proofs.raise_rows.Goals as goal
+
+pub loop-g-init : goal.loop-g-init
+loop-g-init c = (omega arith, none_raised)
+
+pub row_sum-requires : goal.row_sum-requires
+row_sum-requires c = let l = c.loop in
+    let start = c.before.before.before.before.before in
+    (omega (arith, start.requires.1.0, row_within start.args.n start.args.m l.g (omega arith)), start.requires.1.1)
+
+pub add_at-requires : goal.add_at-requires
+add_at-requires c =
+    let at-loop = c.before.before.before in
+    let start = at-loop.before.before.before in
+    let l = at-loop.loop in
+    let able = start.requires.0 in
+    (l.invariant.1.size ∙ able.size, (omega (arith, able.placed), omega (arith, next_low able l.invariant.1, c.row_sum.ensures, row_cap start.args.m start.args.first l.g start.requires.1.1.1)))
+
+pub loop-g-preserved : goal.loop-g-preserved
+loop-g-preserved c = let call = c.before.before in
+    let l = call.loop in
+    (omega arith, one_more l.invariant.1 call.row_sum.ensures call.add_at.auto.0 call.add_at.ensures)
+
+pub returns : goal.returns
+returns c = all_raised c.loop-g.invariant.1 (omega arith)

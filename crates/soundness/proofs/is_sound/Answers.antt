@@ -1,0 +1,43 @@
+-- `soundness::is_sound` meets its contract: the tests of the parts make up `sound`, and where the counts fail so does the whole.
+use mathlib.Core.Bool.{true}
+use mathlib.Core.Path.{◌≡◌, ◌∙◌, sym}
+use borrow.Author.Rules.{rules}
+use Rattle.sound_items.specs.Laws.SoundTests.{counts_test, CountsFit, counts_fit}
+use Rattle.soundness.specs.Laws.PlacesHeldLaws.{sound_held, unsound_held}
+use Rattle.soundness.proofs.is_sound.Goals as goal
+
+passed : (c : goal.Then-counts_sound) → let a = c.args in counts_test a.terms a.counts ≡ true
+passed c = sym c.counts_sound.ensures ∙ c.if-counts_sound.true
+
+fit : (c : goal.Then-counts_sound) → let a = c.args in CountsFit a.terms.generators a.terms.consumers a.counts.unitblocks
+fit c = counts_fit _ _ (passed c)
+
+pub agreed_all_sound-requires : goal.agreed_all_sound-requires
+agreed_all_sound-requires c = (c.requires.whole, (fit c).consumers_fit)
+
+pub pairs_sound-requires : goal.pairs_sound-requires
+pairs_sound-requires c = let t = c.before in (t.requires.whole, ((fit t).generators_fit, (fit t).consumers_fit))
+
+pub generators_sound-requires : goal.generators_sound-requires
+generators_sound-requires c = let t = c.before.before in (t.requires.whole, (fit t).blocks_fit)
+
+pub consumers_sound-requires : goal.consumers_sound-requires
+consumers_sound-requires c = let t = c.before.before.before in (t.requires.whole, (fit t).blocks_fit)
+
+pub hours_sound-requires : goal.hours_sound-requires
+hours_sound-requires c = let p = c.requires in (p.whole, p.counts_are)
+
+pub returns-then-counts_sound : goal.returns-then-counts_sound
+returns-then-counts_sound c =
+    let consumers = c.before in
+    let agreed = consumers.before.before.before in
+    let t = agreed.before in
+    sound_held _ t.requires (passed t)
+    agreed.agreed_all_sound.ensures
+    consumers.pairs_sound.ensures
+    consumers.generators_sound.ensures
+    consumers.consumers_sound.ensures
+    c.hours_sound.ensures
+
+pub returns-else-counts_sound : goal.returns-else-counts_sound
+returns-else-counts_sound c = unsound_held _ c.requires (sym c.counts_sound.ensures ∙ c.if-counts_sound.false)

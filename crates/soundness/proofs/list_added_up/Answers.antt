@@ -1,0 +1,28 @@
+-- `soundness::list_added_up` meets its contract. The invariant: `ok` says whether each place passed is the sum of its classes. Assumes nothing.
+use Prim.Native.Nat.{◌+◌, ◌-◌}
+use mathlib.Core.Bool.{true}
+use mathlib.Core.Path.{◌∙◌}
+use lib.ListN.{get_or}
+use borrow.Author.Rules.{rules}
+use Rattle.lists.specs.Laws.TestsLaws.{Testing, test_start, test_step, test_done}
+use Rattle.record.specs.Sound.{classes_sound}
+use Rattle.record_places.specs.RecordSize.{words_in}
+use Rattle.soundness.specs.Laws.ClassesHeld.{class_total, list_held}
+use Rattle.soundness.specs.Laws.ClassesHeldLaws.{class_held}
+use Rattle.soundness.proofs.list_added_up.Goals as goal
+
+pub loop-i-init : goal.loop-i-init
+loop-i-init c = test_start
+
+pub loop-i-preserved : goal.loop-i-preserved
+loop-i-preserved c =
+    let peak = c.before in
+    let normal = peak.before in
+    let offpeak = normal.before in
+    let whole = offpeak.before in
+    test_step whole.loop-i.invariant (search rules)
+    (c.classes_sound-ok.ensures ∙ class_held _ true _ whole.number_at.ensures offpeak.number_at-in-loop-i.ensures normal.number_at-in-loop-i-2.ensures peak.number_at-in-loop-i-3.ensures)
+
+pub returns : goal.returns
+unfolding list_held
+returns c = test_done c.loop-i.invariant (search rules)

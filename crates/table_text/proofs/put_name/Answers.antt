@@ -1,0 +1,46 @@
+-- `table_text::put_name` meets its contract: the letter, then the number after it. Assumes nothing.
+use mathlib.Core.Path.{ap, ◌∙◌}
+use lib.ListN.{length, length-set}
+use native.Mathlib.Omega.{arith}
+use borrow.Author.Rules.{rules}
+use Rattle.table_text.specs.Laws.TableTextLaws.{name_e, name_r}
+use Rattle.table_text.specs.Laws.LayingLaws.{put_cons}
+use Rattle.table_text.proofs.put_name.Goals as goal
+
+pub bounds-buf-i : goal.bounds-buf-i
+bounds-buf-i c =
+    let s = c.before.before in
+    omega (arith, s.requires.1.fits, ap length (name_e s.args.g s.args.j (search rules)))
+
+pub put_decimal-requires : goal.put_decimal-requires
+put_decimal-requires c =
+    let s = c.before.before.before in
+    record { fits = simp length-set (omega (arith, s.requires.1.fits, ap length (name_e s.args.g s.args.j (search rules)))) }
+
+pub shape_of-buf-then-j-g : goal.shape_of-buf-then-j-g
+shape_of-buf-then-j-g c = c.put_decimal.auto.1.0 ∙ simp length-set
+
+pub returns-then-j-g : goal.returns-then-j-g
+returns-then-j-g c =
+    let s = c.before.before.before.before.before.before in
+    let e = name_e s.args.g s.args.j (search rules) in
+    rw e (put_cons (omega (arith, s.requires.1.fits, ap length e)) c.put_decimal.ensures)
+
+pub bounds-buf-i-2 : goal.bounds-buf-i-2
+bounds-buf-i-2 c =
+    let s = c.before.before in
+    omega (arith, s.requires.1.fits, ap length (name_r s.args.g s.args.j (search rules)))
+
+pub put_decimal-requires-2 : goal.put_decimal-requires-2
+put_decimal-requires-2 c =
+    let s = c.before.before.before in
+    record { fits = simp length-set (omega (arith, s.requires.1.fits, ap length (name_r s.args.g s.args.j (search rules)))) }
+
+pub shape_of-buf : goal.shape_of-buf
+shape_of-buf c = c.put_decimal-2.auto.1.0 ∙ simp length-set
+
+pub returns-then-j-g : goal.returns
+returns-then-j-g c =
+    let s = c.before.before.before.before.before.before in
+    let e = name_r s.args.g s.args.j (search rules) in
+    rw e (put_cons (omega (arith, s.requires.1.fits, ap length e)) c.put_decimal-2.ensures)

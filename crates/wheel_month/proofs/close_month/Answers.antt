@@ -1,0 +1,9 @@
+-- `wheel_month::close_month` meets its contract: one closing. Assumes nothing.
+use borrow.Author.Rules.{rules}
+use Rattle.book.specs.BookCalls.{closing, rule_of}
+use Rattle.wheel_month.specs.Laws.CarriedLaws.{carried_on}
+use Rattle.wheel_month.proofs.close_month.Goals as goal
+
+pub returns : goal.returns
+unfolding rule_of
+returns c = let called = c.before.before.before in carried_on (closing 9) called.requires called.close_on.ensures

@@ -1,0 +1,21 @@
+-- `wheel_month::enter_and_close` meets its contract: the lines, and the closing after them. Assumes nothing.
+use mathlib.Core.List.{[], ◌∷◌}
+use native.Mathlib.Omega.{arith}
+use borrow.Author.Rules.{rules}
+use Rattle.book.specs.BookCalls.{closing}
+use Rattle.wheel_month.specs.Laws.CarriedLaws.{carried_then, carried_stop, carried_ready}
+use Rattle.wheel_month.proofs.enter_and_close.Goals as goal
+
+pub returns-then-number-ne0 : goal.returns-then-number-ne0
+returns-then-number-ne0 c = carried_stop c.enter_lines-number.ensures (closing 9 ∷ []) c.if-number-ne0.true
+
+pub close_month-requires : goal.close_month-requires
+close_month-requires c =
+    let entered = c.before.before.before.before in
+    carried_ready entered.enter_lines-number.ensures c.if-number-ne0.false (omega (arith, entered.enter_lines-number.auto.0, entered.requires.whole))
+
+pub returns-then-number-ne0 : goal.returns
+returns-then-number-ne0 c =
+    let closed = c.before.before in
+    let accepted = closed.before.before in
+    carried_then accepted.enter_lines-number.ensures accepted.if-number-ne0.false closed.close_month.ensures

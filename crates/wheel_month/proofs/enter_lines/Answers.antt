@@ -1,0 +1,25 @@
+-- `wheel_month::enter_lines` meets its contract. The loop's invariant: the lines after i values, carried out on the record, carry out all. Assumes nothing.
+use Prim.Native.Nat.{◌-◌}
+use native.Mathlib.Omega.{arith}
+use borrow.Author.Rules.{rules}
+use lib.ListN.{length}
+use Rattle.wheel_month.specs.Laws.Entering.{Entering, entering_start, entering_step, entering_stop, entering_done}
+use Rattle.wheel_month.proofs.enter_lines.Goals as goal
+
+pub loop-i-init : goal.loop-i-init
+loop-i-init c = let start = c.before.before in entering_start start.args.s-1.now start.args.values.now start.requires
+
+pub returns-then-number-ne0 : goal.returns-then-number-ne0
+returns-then-number-ne0 c =
+    let called = c.before.before.before in
+    let entered = called.loop-i.invariant in
+    entering_stop entered called.enter_line-number.new.0 (search rules) called.enter_line-number.ensures c.if-number-ne0.true
+
+pub loop-i-preserved : goal.loop-i-preserved
+loop-i-preserved c =
+    let called = c.before.before.before in
+    let entered = called.loop-i.invariant in
+    entering_step entered called.enter_line-number.new.0 (search rules) called.enter_line-number.ensures c.if-number-ne0.false (omega (arith, called.enter_line-number.auto.0, entered.ready.whole))
+
+pub returns-then-number-ne0 : goal.returns
+returns-then-number-ne0 c = entering_done c.loop-i.invariant (search rules)

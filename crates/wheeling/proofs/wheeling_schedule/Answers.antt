@@ -1,0 +1,24 @@
+-- `wheeling::wheeling_schedule` meets its contract: schedule on the record and the numbers that the bytes hold. Assumes nothing.
+use borrow.Author.Rules.{rules}
+use native.Mathlib.Omega.{arith}
+use lib.ListN.{length-take}
+use Rattle.wheeling_rules.specs.Laws.WheelingLaws.{schedule_on_bytes, on_other}
+use Rattle.wheeling.proofs.wheeling_schedule.Goals as goal
+
+pub slice_bounds-schedule_on-end : goal.slice_bounds-schedule_on-end
+slice_bounds-schedule_on-end c =
+    let after-read-input = c.before.before.before.before.before.before in
+    simp length-take (omega (arith, after-read-input.read_input-n.ensures.within, after-read-input.read_input-n.ensures.size))
+
+pub slice_bounds-schedule_on-end-then-record-eq-RECORD_BYTES : goal.slice_bounds-schedule_on-end-then-record-eq-RECORD_BYTES
+slice_bounds-schedule_on-end-then-record-eq-RECORD_BYTES c = simp length-take (omega (arith, c.read_input-m.ensures.within, c.read_input-m.ensures.size))
+
+pub returns-then-record-eq-RECORD_BYTES : goal.returns-then-record-eq-RECORD_BYTES
+returns-then-record-eq-RECORD_BYTES c =
+    let called = c.before.before in
+    let second = called.before.before.before.before.before in
+    let first = second.before.before.before in
+    schedule_on_bytes _ _ first.if-record-eq-RECORD_BYTES.true first.read_input-n.ensures.alike second.read_input-m.ensures.alike called.schedule_on.ensures
+
+pub returns-then-record-eq-RECORD_BYTES : goal.returns
+returns-then-record-eq-RECORD_BYTES c = on_other c.if-record-eq-RECORD_BYTES.false
