@@ -10,11 +10,11 @@ pub loop-c-init : goal.loop-c-init
 loop-c-init c = sum_start
 
 pub overflow_add-total : goal.overflow_add-total
-overflow_add-total c = let l = c.loop in
+overflow_add-total c = let l = c.loop-c in
     omega (arith, c.wide-total.ensures, l.invariant.cap, c.shared_slice_known-in-loop-c-1.given (c.args.from + l.c))
 
 pub loop-c-preserved : goal.loop-c-preserved
-loop-c-preserved c = let l = c.loop in
+loop-c-preserved c = let l = c.loop-c in
     let b = c.shared_slice_known-in-loop-c-1.given (c.args.from + l.c) in
     sum_step l.invariant (search rules) c.wide-total.ensures (omega (arith, c.wide-total.ensures, b))
 

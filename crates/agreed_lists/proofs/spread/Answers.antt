@@ -9,13 +9,13 @@ pub loop-g-init : goal.loop-g-init
 loop-g-init c = spread_start (search rules) (search rules)
 
 pub overflow_mul-g : goal.overflow_mul-g
-overflow_mul-g c = let l = c.loop in omega (arith, (row_at l.g c.requires (search rules)).fits)
+overflow_mul-g c = let l = c.loop-g in omega (arith, (row_at l.g c.requires (search rules)).fits)
 
 pub overflow_add-from : goal.overflow_add-from
-overflow_add-from c = let l = c.loop in omega (arith, (row_at l.g c.requires (search rules)).fits)
+overflow_add-from c = let l = c.loop-g in omega (arith, (row_at l.g c.requires (search rules)).fits)
 
 pub put_row-requires : goal.put_row-requires
-put_row-requires c = let l = c.loop in (search rules, (spread_length l.invariant, row_at l.g c.requires (search rules)))
+put_row-requires c = let l = c.loop-g in (search rules, (spread_length l.invariant, row_at l.g c.requires (search rules)))
 
 pub loop-g-preserved : goal.loop-g-preserved
 loop-g-preserved c = spread_step c.loop-g.invariant (search rules) c.put_row.ensures

@@ -13,5 +13,5 @@ sum_tested b p most l = same_test _ _ (λ t. le-leb (b + p) most (omega (arith, 
 pub returns-then-pending-le-MOST_ENERGY : goal.returns-then-pending-le-MOST_ENERGY
 returns-then-pending-le-MOST_ENERGY c = sum_tested _ _ _ c.if-pending-le-MOST_ENERGY.true
 
-pub returns-then-pending-le-MOST_ENERGY : goal.returns
-returns-then-pending-le-MOST_ENERGY c = let a = c.args in sym (lt-leb (a.balance + a.pending) _ (omega arith))
+pub returns : goal.returns
+returns c = let a = c.args in sym (lt-leb (a.balance + a.pending) _ (omega arith))

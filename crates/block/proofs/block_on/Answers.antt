@@ -3,5 +3,5 @@ use borrow.Author.Rules.{rules}
 use Rattle.block.specs.Laws.BlockReady.{block_refused}
 use Rattle.block.proofs.block_on.Goals as goal
 
-pub returns-then-number-eq0 : goal.returns
-returns-then-number-eq0 c = block_refused _ _ _ _ c.refusal_on-number.ensures c.if-number-eq0.false
+pub returns : goal.returns
+returns c = block_refused _ _ _ _ c.refusal_on-number.ensures c.if-number-eq0.false

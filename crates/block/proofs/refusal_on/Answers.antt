@@ -7,8 +7,9 @@ use Rattle.record.specs.Sound.{sound}
 use Rattle.block_rules.specs.Laws.BlockRefusals.{record_refusal}
 use Rattle.record_layout.specs.OnBytes.{book_in}
 use Rattle.block.proofs.refusal_on.Goals as goal
+use Rattle.block.proofs.refusal_on.Goals.{Then-is_sound}
 
-passed : (c : goal.Then-is_sound) → sound (book_in c.args.s.now) ≡ true
+passed : (c : Then-is_sound) → sound (book_in c.args.s.now) ≡ true
 passed c = sym c.is_sound.ensures ∙ c.if-is_sound.true
 
 pub refusal-requires : goal.refusal-requires

@@ -2,9 +2,10 @@
 use borrow.Author.Rules.{rules}
 use Rattle.block.specs.Laws.BlockReady.{ready, ranked, exits, sized, delivered_sized, settled, block_accepted}
 use Rattle.block.proofs.settle.Goals as goal
+use Rattle.block.proofs.settle.Goals.{After-deliver, Start}
 
 -- where the function started, seen from its first step
-abbrev start : goal.After-deliver → goal.Start
+abbrev start : After-deliver → Start
 start c = let known = c.before.before.before in known.before.before.before.before
 
 pub deliver-requires : goal.deliver-requires

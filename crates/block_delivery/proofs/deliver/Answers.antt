@@ -7,18 +7,19 @@ use Rattle.lists.specs.Laws.PairsLaws.{length_pairs}
 use Rattle.output_lists.specs.Laws.StretchPlaces.{lent_from}
 use Rattle.block_delivery.specs.Laws.DeliveryLists.{limited, all_consumers, rows, exact_here, delivered_in, same_size}
 use Rattle.block_delivery.proofs.deliver.Goals as goal
+use Rattle.block_delivery.proofs.deliver.Goals.{After-fill_delivered, After-fill_gap, After-fill_loss, After-share_rows, Start}
 
 -- where the function started, and the calls that came before, seen from each call
-abbrev start : goal.After-share_rows → goal.Start
+abbrev start : After-share_rows → Start
 start h = h.before.before.before.before.before.before
 
-abbrev shared : goal.After-fill_loss → goal.After-share_rows
+abbrev shared : After-fill_loss → After-share_rows
 shared f = f.before.before.before.before.before
 
-abbrev lessened : goal.After-fill_delivered → goal.After-fill_loss
+abbrev lessened : After-fill_delivered → After-fill_loss
 lessened d = d.before.before.before.before.before
 
-abbrev delivered : goal.After-fill_gap → goal.After-fill_delivered
+abbrev delivered : After-fill_gap → After-fill_delivered
 delivered q = q.before.before.before.before.before
 
 pub share_rows-requires : goal.share_rows-requires

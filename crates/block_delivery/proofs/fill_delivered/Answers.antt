@@ -6,8 +6,9 @@ use lib.ListN.{length}
 use Rattle.output_lists.specs.Laws.RowsWritten.{WritingRows, rows_start, rows_put, rows_length, rows_done, row_room}
 use Rattle.block_delivery.specs.Laws.DeliveryRows.{figure}
 use Rattle.block_delivery.proofs.fill_delivered.Goals as goal
+use Rattle.block_delivery.proofs.fill_delivered.Goals.{In-loop-g}
 
-room : (c : goal.In-loop-g) → let l = c.loop in let m = c.args.m in (l.at + m ≤ 128) × (l.at + m ≤ length l.out)
+room : (c : In-loop-g) → let l = c.loop-g in let m = c.args.m in (l.at + m ≤ 128) × (l.at + m ≤ length l.out)
 room c = row_room c.loop-g.invariant (search rules) (search rules) (search rules)
 
 pub loop-g-preserved : goal.loop-g-preserved

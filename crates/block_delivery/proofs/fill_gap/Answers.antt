@@ -7,8 +7,9 @@ use Rattle.output_lists.specs.Laws.RowsWritten.{WritingRows, rows_start, rows_pu
 use Rattle.record_layout.specs.OnBytes.{plan_in}
 use Rattle.block_delivery.specs.Laws.DeliveryRows.{figure, gap_at}
 use Rattle.block_delivery.proofs.fill_gap.Goals as goal
+use Rattle.block_delivery.proofs.fill_gap.Goals.{In-loop-g}
 
-room : (c : goal.In-loop-g) → let l = c.loop in let m = c.args.m in (l.at + m ≤ 128) × (l.at + m ≤ length l.out)
+room : (c : In-loop-g) → let l = c.loop-g in let m = c.args.m in (l.at + m ≤ 128) × (l.at + m ≤ length l.out)
 room c = row_room c.loop-g.invariant (search rules) (search rules) (search rules)
 
 pub gap_row-requires : goal.gap_row-requires

@@ -11,20 +11,21 @@ use Rattle.energy.specs.Energy.{loss_on, after_loss}
 use Rattle.record_layout.specs.OnBytes.{plan_in}
 use Rattle.block_delivery.specs.Laws.DeliveryRows.{figure}
 use Rattle.block_delivery.proofs.fill_loss.Goals as goal
+use Rattle.block_delivery.proofs.fill_loss.Goals.{In-loop-g, Start}
 
 -- in the loop: where the function started, and the row, which is as it was lent
 abbrev In : Type 0
-In = goal.In-loop-g
+In = In-loop-g
 
-abbrev start : In → goal.Start
+abbrev start : In → Start
 start i = i.before.before.before.before
 
 row_here : (i : In) → get_or i.loop-g.parts i.loop-g.g [] ≡ get_or (start i).args.parts.now i.loop-g.g []
 row_here i =
-    let l = i.loop in
+    let l = i.loop-g in
     ap (λ (rows : List (List ℕ)). get_or rows l.g []) l.invariant.1.is ∙ filled_later (start i).args.parts.now l.g _ l.g [] (omega arith)
 
-room : (i : In) → let l = i.loop in let m = (start i).args.m in (l.at + m ≤ 128) × (l.at + m ≤ length l.out)
+room : (i : In) → let l = i.loop-g in let m = (start i).args.m in (l.at + m ≤ 128) × (l.at + m ≤ length l.out)
 room i = row_room i.loop-g.invariant.0 (search rules) (search rules) (search rules)
 
 pub loss_row-requires : goal.loss_row-requires

@@ -8,12 +8,13 @@ use Rattle.lists.specs.Laws.TablesLaws.{Filling, fill_start, fill_step, fill_len
 use Rattle.record_layout.specs.OnBytes.{plan_in}
 use Rattle.block_delivery.specs.Laws.DeliveryRows.{gap_at}
 use Rattle.block_delivery.proofs.gap_row.Goals as goal
+use Rattle.block_delivery.proofs.gap_row.Goals.{In-loop-c, Start}
 
 -- in the loop: where the function started
 abbrev In : Type 0
-In = goal.In-loop-c
+In = In-loop-c
 
-abbrev start : In → goal.Start
+abbrev start : In → Start
 start i = i.before.before.before.before.before
 
 pub kw_at-requires : goal.kw_at-requires

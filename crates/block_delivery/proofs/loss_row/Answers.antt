@@ -10,12 +10,13 @@ use Rattle.energy.specs.Laws.EnergyLaws.{loss_le}
 use Rattle.energy.specs.Limits.{most_loss}
 use Rattle.record_layout.specs.OnBytes.{plan_in}
 use Rattle.block_delivery.proofs.loss_row.Goals as goal
+use Rattle.block_delivery.proofs.loss_row.Goals.{After-loss-less, After-lossy_at-lossy, In-loop-c, Start}
 
 -- in the loop: where the function started, the pair's part and its rate
 abbrev In : Type 0
-In = goal.In-loop-c
+In = In-loop-c
 
-abbrev start : In → goal.Start
+abbrev start : In → Start
 start i = i.before.before.before.before
 
 abbrev part : In → ℕ
@@ -31,13 +32,13 @@ rate_high : (i : In) → rate i ≤ most_loss
 rate_high i = (start i).requires.0.loss_high (start i).args.g i.loop-c.c
 
 -- the loss is the pair's, and within its part
-taken : (k : goal.After-lossy_at-lossy) → let i = k.before.before in (k.lossy_at-lossy.result.energy.0 ≡ part i) × (k.lossy_at-lossy.result.rate ≡ rate i)
+taken : (k : After-lossy_at-lossy) → let i = k.before.before in (k.lossy_at-lossy.result.energy.0 ≡ part i) × (k.lossy_at-lossy.result.rate ≡ rate i)
 taken k = let i = k.before.before in (omega (arith, part_here i), omega arith)
 
-less_is : (k : goal.After-loss-less) → let i = k.before.before.before in k.loss-less.result.0 ≡ loss_on (part i) (rate i)
+less_is : (k : After-loss-less) → let i = k.before.before.before in k.loss-less.result.0 ≡ loss_on (part i) (rate i)
 less_is k = let t = taken k.before in k.loss-less.ensures ∙ rw (t.0, t.1)
 
-less_low : (k : goal.After-loss-less) → k.loss-less.result.0 ≤ part k.before.before.before
+less_low : (k : After-loss-less) → k.loss-less.result.0 ≤ part k.before.before.before
 less_low k = let i = k.before.before.before in omega (arith, less_is k, loss_le (part i) (rate i) (omega (arith, rate_high i)))
 
 pub lossy_at-lossy-requires : goal.lossy_at-lossy-requires

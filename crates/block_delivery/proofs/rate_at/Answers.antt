@@ -5,8 +5,9 @@ use borrow.Author.Rules.{rules}
 use Rattle.record_layout.specs.OnBytes.{plan_in}
 use Rattle.record_layout.specs.Laws.PairPlaces.{loss_at_lem}
 use Rattle.block_delivery.proofs.rate_at.Goals as goal
+use Rattle.block_delivery.proofs.rate_at.Goals.{After-number_at}
 
-read : (c : goal.After-number_at) → c.number_at.result ≡ (plan_in c.args.s.now).loss c.args.g c.args.c
+read : (c : After-number_at) → c.number_at.result ≡ (plan_in c.args.s.now).loss c.args.g c.args.c
 read c = let s = c.before.before in c.number_at.ensures ∙ sym (loss_at_lem s.args.s.now s.args.g s.args.c (search rules) (search rules))
 
 pub overflow_cast-result : goal.overflow_cast-result

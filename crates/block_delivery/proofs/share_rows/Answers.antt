@@ -15,12 +15,13 @@ use Rattle.record_layout.specs.OnBytes.{plan_in}
 use Rattle.block_delivery.specs.Laws.DeliveryLent.{entries_in}
 use Rattle.block_delivery.specs.Laws.DeliveryRowLaws.{kw_high, scheduled_low, counted_here, parts_here}
 use Rattle.block_delivery.proofs.share_rows.Goals as goal
+use Rattle.block_delivery.proofs.share_rows.Goals.{After-counted_at-counts, In-loop-g, Start}
 
 -- in the loop: where the function started, the plan, the readings and the generator
 abbrev In : Type 0
-In = goal.In-loop-g
+In = In-loop-g
 
-abbrev start : In → goal.Start
+abbrev start : In → Start
 start i = i.before.before.before.before.before
 
 abbrev plan : In → Plan
@@ -35,7 +36,7 @@ generator i = i.loop-g.g
 reading_is : (i : In) → get_or (start i).args.entry.now (generator i) 0 ≡ entries i (generator i)
 reading_is i = sym (place_in (plan i).G (start i).args.entry.now (generator i) (search rules))
 
-counted_is : (k : goal.After-counted_at-counts) → let i = k.before.before.before in k.counted_at-counts.result ≡ counted (plan i) (generator i) (entries i (generator i))
+counted_is : (k : After-counted_at-counts) → let i = k.before.before.before in k.counted_at-counts.result ≡ counted (plan i) (generator i) (entries i (generator i))
 counted_is k =
     let r = k.before.before in
     let i = r.before in

@@ -7,12 +7,13 @@ use Rattle.energy.specs.Energy.{quarter_hour}
 use Rattle.block_rules.specs.Delivery.{counted_of}
 use Rattle.block_figures.specs.Laws.CountingLaws.{counted_idle, counted_deemed, counted_smaller}
 use Rattle.block_figures.proofs.counted.Goals as goal
+use Rattle.block_figures.proofs.counted.Goals.{After-quarter_hour-most, Start}
 
 -- where the function started, once its schedule is in Wh
-abbrev start : goal.After-quarter_hour-most → goal.Start
+abbrev start : After-quarter_hour-most → Start
 start q = q.before.before.before.before
 
-smaller : (q : goal.After-quarter_hour-most) → let a = (start q).args in min a.entry (quarter_hour a.scheduled.0) ≡ counted_of a.kind a.scheduled.0 a.entry
+smaller : (q : After-quarter_hour-most) → let a = (start q).args in min a.entry (quarter_hour a.scheduled.0) ≡ counted_of a.kind a.scheduled.0 a.entry
 smaller q = counted_smaller _ _ _ (λ z. omega arith) (omega arith)
 
 pub returns-then-scheduled-eq0 : goal.returns-then-scheduled-eq0

@@ -18,5 +18,5 @@ overflow_sub-result c =
 pub overflow_sub-result-then-kind-eq0 : goal.overflow_sub-result-then-kind-eq0
 overflow_sub-result-then-kind-eq0 c = let s = c.before.before.before.before in omega (arith, s.requires.1 (omega arith))
 
-pub returns-then-kind-eq0 : goal.returns
-returns-then-kind-eq0 c = gap_deemed _ _ _ _ (λ z. omega arith)
+pub returns : goal.returns
+returns c = gap_deemed _ _ _ _ (λ z. omega arith)

@@ -10,10 +10,11 @@ use Rattle.lists.specs.Sums as sums
 use Rattle.lists.specs.Sums.{sum}
 use Rattle.lists.specs.Laws.SumsLaws.{sum_none, sum_more, sum_to}
 use Rattle.block_figures.proofs.scheduled_kw.Goals as goal
+use Rattle.block_figures.proofs.scheduled_kw.Goals.{In-loop-c}
 
 -- the sum with consumer c, as the code has it
 sum_next :
-    (c : goal.In-loop-c) →
+    (c : In-loop-c) →
     c.loop-c.sum + get_or c.args.t1 c.loop-c.c 0 ≡ sum (c.loop-c.c + 1) (place 16 c.args.t1)
 sum_next c =
     let row = c.args.t1 in

@@ -21,7 +21,7 @@ pub loop-c-preserved : goal.loop-c-preserved
 loop-c-preserved c =
     let one = c.before.before in
     let turn = one.before.before.before.before in
-    let l = turn.loop in
+    let l = turn.loop-c in
     let start = turn.before.before.before.before.before in
     let s = start.args.s.now in
     let ranked = start.requires.0 in
@@ -30,11 +30,11 @@ loop-c-preserved c =
     let read = one.wide.ensures ∙ sym (place_in (plan_in s).C start.args.exit.now l.c inside) in
     let done = one.settle_one.ensures in (
       λ E d. let both = done E _ read (l.invariant.0 E d).0 in (both.0, one_remainder _ E _ (l.invariant.0 E d).1 within both.1),
-      (omega (arith, turn.loop-c-test.true), (one.settle_one.auto.1.1.1.1.1.0 ∙ l.invariant.1.1.0, simp length-set l.invariant.1.1.1)),
+      (omega (arith, turn.loop-c-test.true), (one.settle_one.auto.out ∙ l.invariant.1.1.0, simp length-set l.invariant.1.1.1)),
     )
 
 pub returns : goal.returns
 returns c =
-    let l = c.loop in
+    let l = c.loop-c in
     let m_is : l.c ≡ c.args.m = omega (arith, l.invariant.1.0) in
     (l.invariant.1.1.1, λ E d. rw m_is at (l.invariant.0 E d))

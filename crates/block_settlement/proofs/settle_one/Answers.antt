@@ -6,15 +6,16 @@ use Rattle.record_layout.specs.OnBytes.{plan_in}
 use Rattle.block_settlement.specs.Laws.StretchStocked.{stretch_stocked}
 use Rattle.block_settlement.specs.Laws.SettledLaws.{settled_in_turn}
 use Rattle.block_settlement.proofs.settle_one.Goals as goal
+use Rattle.block_settlement.proofs.settle_one.Goals.{After-settle-left, After-short-1, After-turns_at-keys, Start}
 
 -- where the function started, when the order was read and when underdrawn's list was settled
-abbrev turned : goal.After-turns_at-keys → goal.Start
+abbrev turned : After-turns_at-keys → Start
 turned c = c.before.before.before
 
-abbrev settled : goal.After-settle-left → goal.After-turns_at-keys
+abbrev settled : After-settle-left → After-turns_at-keys
 settled c = c.before.before.before.before
 
-abbrev underdrawn : goal.After-short-1 → goal.After-settle-left
+abbrev underdrawn : After-short-1 → After-settle-left
 underdrawn c = c.before.before.before.before.before
 
 pub settle-left-requires : goal.settle-left-requires

@@ -9,9 +9,10 @@ use Rattle.block_totals.specs.Laws.BlockTotals.{generators_raised, consumers_rai
 use Rattle.block_totals.specs.Laws.BlockTotalsLaws.{generators_behind}
 use Rattle.record_places.specs.RecordSize.{words_in}
 use Rattle.block_totals.proofs.raise.Goals as goal
+use Rattle.block_totals.proofs.raise.Goals.{After-put_at-2, After-raise_generators, Start}
 
 -- where the function started, seen from its first call
-abbrev start : goal.After-raise_generators → goal.Start
+abbrev start : After-raise_generators → Start
 start c = let known = c.before.before.before in known.before.before.before
 
 pub raise_generators-requires : goal.raise_generators-requires
@@ -24,7 +25,7 @@ raise_consumers-requires c =
     let generators = c.before.before.before in
     let settled = (start generators).requires in
     let lists = lists_stand settled in
-    (generators_behind _ _ _ _ lists.generators_few (totals_raisable settled) generators.raise_generators.ensures generators.raise_generators.auto.0, (exit_sized settled, lists))
+    (generators_behind _ _ _ _ lists.generators_few (totals_raisable settled) generators.raise_generators.ensures generators.raise_generators.auto.s, (exit_sized settled, lists))
 
 pub overflow_add-counts : goal.overflow_add-counts
 overflow_add-counts c =
@@ -40,12 +41,12 @@ overflow_add-counts-2 c =
     omega (arith, counts_low (start generators).requires)
 
 -- the first call, seen from the last of those before the class of hours
-abbrev first : goal.After-put_at-2 → goal.After-raise_generators
+abbrev first : After-put_at-2 → After-raise_generators
 first c = let blocks = c.before.before.before.before.before in let consumers = blocks.before.before.before.before.before in consumers.before.before.before.before
 
 -- all is raised but the class
-raised : (c : goal.After-put_at-2) → let a = (start (first c)).args in
-    words_in c.put_at-2.new.0 ≡ counts_raised a.counts (consumers_raised a.n a.m a.exit.now a.out.now (generators_raised a.n a.m a.entry.now a.out.now (words_in a.s-1.now)))
+raised : (c : After-put_at-2) → let a = (start (first c)).args in
+    words_in c.put_at-2.new.s ≡ counts_raised a.counts (consumers_raised a.n a.m a.exit.now a.out.now (generators_raised a.n a.m a.entry.now a.out.now (words_in a.s-1.now)))
 unfolding counts_raised
 raised c =
     let blocks = c.before.before.before.before.before in
@@ -64,4 +65,4 @@ returns c =
     let month = class.before.before.before.before in
     let a = (start (first month)).args in
     let hours = ap (λ (ws : List ℕ). hours_raised a.n a.m a.out.now ws a.counts.monthblocks) (raised month) in
-    bytes_after (start (first month)).requires _ (class.raise_hours.auto.0 ∙ month.put_at-2.ensures.1) (λ i. omega (arith, c.slice_known-6-1.given i)) (class.raise_hours.ensures ∙ hours)
+    bytes_after (start (first month)).requires _ (class.raise_hours.auto.s ∙ month.put_at-2.ensures.1) (λ i. omega (arith, c.slice_known-6-1.given i)) (class.raise_hours.ensures ∙ hours)

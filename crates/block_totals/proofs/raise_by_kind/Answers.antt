@@ -18,7 +18,7 @@ pub underdrawn_by_kind-added-requires : goal.underdrawn_by_kind-added-requires
 underdrawn_by_kind-added-requires c =
     let at-loop = c.before.before in
     let start = at-loop.before.before.before in
-    let l = at-loop.loop in
+    let l = at-loop.loop-g in
     let pre = start.requires.1.1 in
     (l.invariant.1.size ∙ start.requires.0.size, (omega (arith, pre.1.0), (omega (arith, pre.0, row_within start.args.n start.args.m l.g (omega arith)), pre.1.1)))
 
@@ -27,7 +27,7 @@ add_at-requires c =
     let call = c.before in
     let at-loop = call.before.before.before in
     let start = at-loop.before.before.before in
-    let l = at-loop.loop in
+    let l = at-loop.loop-g in
     let able = start.requires.0 in
     let row = call.underdrawn-by-kind in
     (l.invariant.1.size ∙ able.size, (omega (arith, able.placed), omega (arith, next_low able l.invariant.1, row.ensures, by_kind_cap start.args.deemed (words_in l.s) start.args.m start.args.first l.g start.requires.1.1.1.1.1)))
@@ -36,11 +36,11 @@ pub loop-g-preserved : goal.loop-g-preserved
 loop-g-preserved c =
     let added = c.before.before in
     let call = added.before.before in
-    let l = call.loop in
+    let l = call.loop-g in
     let start = call.before.before.before.before.before.before in
     let a = start.args in
     let row = call.underdrawn_by_kind-added.ensures ∙ row_stays a.deemed a.m a.xs.now a.first l.g l.invariant.1 start.requires.1.0 (omega (arith, start.requires.1.1.1.0)) in
-    (omega arith, one_more l.invariant.1 row added.add_at.auto.0 added.add_at.ensures)
+    (omega arith, one_more l.invariant.1 row added.add_at.auto.s added.add_at.ensures)
 
 pub returns : goal.returns
 returns c = all_raised c.loop-g.invariant.1 (omega arith)

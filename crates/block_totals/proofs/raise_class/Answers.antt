@@ -4,9 +4,10 @@ use borrow.Author.Rules.{rules}
 use Rattle.record_runs.specs.Laws.RaiseLaws.{fewer}
 use Rattle.block_totals.specs.Laws.BlockTotalsLaws.{behind, among, stocks_all}
 use Rattle.block_totals.proofs.raise_class.Goals as goal
+use Rattle.block_totals.proofs.raise_class.Goals.{After-raise_by_kind, Start}
 
 -- where the function started, seen from its first call
-abbrev start : goal.After-raise_by_kind → goal.Start
+abbrev start : After-raise_by_kind → Start
 start c = let known = c.before.before in known.before.before
 
 pub raise_by_kind-requires : goal.raise_by_kind-requires
@@ -27,4 +28,4 @@ returns c =
     let remaining = c.before.before in
     let pending = remaining.before.before.before.before in
     let a = (start pending).args in
-    stocks_all a.n a.m a.out.now a.start {s = a.s-1.now} {t = pending.raise_by_kind.new.0} {u = remaining.raise_numbers.new.0} pending.raise_by_kind.ensures remaining.raise_numbers.ensures
+    stocks_all a.n a.m a.out.now a.start {s = a.s-1.now} {t = pending.raise_by_kind.new.s} {u = remaining.raise_numbers.new.s} pending.raise_by_kind.ensures remaining.raise_numbers.ensures

@@ -6,9 +6,10 @@ use Rattle.block_rules.specs.Laws.BlockClasses.{class_few}
 use Rattle.block_totals.specs.Laws.BlockTotalsLaws.{among, class_raised_lem, no_class_raised}
 use Rattle.record_places.specs.RecordSize.{words_in}
 use Rattle.block_totals.proofs.raise_hours.Goals as goal
+use Rattle.block_totals.proofs.raise_hours.Goals.{After-apply, Start}
 
 -- where the function started, seen from its first test
-abbrev start : goal.After-apply → goal.Start
+abbrev start : After-apply → Start
 start c = let closings = c.before.before in let switch = closings.before.before in switch.before.before.before
 
 pub overflow_mul-start : goal.overflow_mul-start

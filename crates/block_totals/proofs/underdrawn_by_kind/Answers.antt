@@ -9,7 +9,7 @@ returns-then-banked-deemed c =
     let read = c.before.before in
     c.row_sum.ensures ∙ rw (← read.number_at-banked.ensures) (sym (kind_asked read.args.deemed read.number_at-banked.result _ c.if-banked-deemed.true))
 
-pub returns-then-banked-deemed : goal.returns
-returns-then-banked-deemed c =
+pub returns : goal.returns
+returns c =
     let read = c.before in
     rw (← read.number_at-banked.ensures) (sym (kind_not_asked read.args.deemed read.number_at-banked.result _ c.if-banked-deemed.false))

@@ -10,8 +10,8 @@ returns-then-main-check c = c.tell.ensures ∙ not_of_96 _ _ _ c.if-main-check.t
 pub scan-found-requires : goal.scan-found-requires
 scan-found-requires c = both_of_96 c.if-main-check.false
 
-pub returns-then-main-check : goal.returns
-returns-then-main-check c =
+pub returns : goal.returns
+returns c =
     let numbered = c.before in
     let passed = numbered.before in
     c.tell-2.ensures ∙ compared _ _ _ passed.if-main-check.false passed.scan-found.ensures numbered.first-number.ensures

@@ -24,8 +24,8 @@ slice_bounds-result-end-2 c =
     let accepted = c.before.before in
     main_part _ _ _ accepted.compare-both.ensures accepted.if-both-ne0.false
 
-pub returns-then-both-ne0 : goal.returns
-returns-then-both-ne0 c =
+pub returns : goal.returns
+returns c =
     let used = c.before in
     let accepted = used.before in
     main_handed _ _ _ accepted.compare-both.ensures accepted.if-both-ne0.false used.if-both.false

@@ -11,5 +11,5 @@ pub give-requires : goal.give-requires
 give-requires c =
     (search rules, c.give-left.ensures.size)
 
-pub returns-then-k-eq2 : goal.returns
-returns-then-k-eq2 c = gave_both _ _ c.give-left.ensures c.give.ensures
+pub returns : goal.returns
+returns c = gave_both _ _ c.give-left.ensures c.give.ensures

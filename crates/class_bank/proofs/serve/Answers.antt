@@ -11,6 +11,7 @@ use Rattle.lists.specs.Laws.TestsLaws.{and_left}
 use Rattle.order.specs.Laws.KeptOrder.{turns_of}
 use Rattle.class_bank.specs.Laws.Serving.{Going, serve_start, serve_step, serve_done}
 use Rattle.class_bank.proofs.serve.Goals as goal
+use Rattle.class_bank.proofs.serve.Goals.{In-loop-i}
 
 -- one of two tests fails
 ended : (i left : ℕ) → ltb 0 i && ltb 0 left ≡ false → (i ≡ 0) ⊎ (left ≡ 0)
@@ -21,7 +22,7 @@ ended i left e = go (ltb 0 i) refl e
     go false p e = inl (omega (arith, ltb-false 0 i p))
 
 -- in the loop a key is left, and something is wanted
-more : (c : goal.In-loop-i) → 0 < c.loop-i.i
+more : (c : In-loop-i) → 0 < c.loop-i.i
 more c = ltb-true 0 c.loop-i.i (and_left _ (ltb 0 c.loop-i.left) c.loop-i-test.true)
 
 pub loop-i-init : goal.loop-i-init

@@ -10,15 +10,16 @@ use Rattle.record_layout.specs.OnBytes.{book_in}
 use Rattle.closing_by_hours.specs.Laws.ClassesRead.{wanted_at, wanted_read}
 use Rattle.class_turns.specs.Laws.TurnsSettled.{TurnsSettled, turns_start, turns_step}
 use Rattle.class_turns.proofs.settle_turns.Goals as goal
+use Rattle.class_turns.proofs.settle_turns.Goals.{In-loop-t, Start}
 
 pub loop-t-init : goal.loop-t-init
 loop-t-init c = let p = c.requires in turns_start _ p.size p.stock_is
 
 -- in the loop: where the function started
 abbrev In : Type 0
-In = goal.In-loop-t
+In = In-loop-t
 
-abbrev start : In → goal.Start
+abbrev start : In → Start
 start i = i.before.before.before.before
 
 few : (i : In) → (start i).args.n ≤ 8

@@ -11,25 +11,25 @@ pub store-requires : goal.store-requires
 store-requires c = refl
 
 pub slice_bounds-close_on-end : goal.slice_bounds-close_on-end
-slice_bounds-close_on-end c = sym c.store.auto.1.0
+slice_bounds-close_on-end c = sym c.store.auto.s
 
 pub close_on-number-requires : goal.close_on-number-requires
-close_on-number-requires c = c.store.auto.1.0
+close_on-number-requires c = c.store.auto.s
 
 pub slice_bounds-load-end : goal.slice_bounds-load-end
 slice_bounds-load-end c =
     let closed = c.before.before.before.before in
     let filled = closed.before.before.before.before in
-    sym (closed.close_on-number.auto.0 ∙ filled.store.auto.1.0)
+    sym (closed.close_on-number.auto.s ∙ filled.store.auto.s)
 
 pub load-after-requires : goal.load-after-requires
 load-after-requires c =
     let closed = c.before.before.before.before in
     let filled = closed.before.before.before.before in
-    closed.close_on-number.auto.0 ∙ filled.store.auto.1.0
+    closed.close_on-number.auto.s ∙ filled.store.auto.s
 
 pub shape_of-out : goal.shape_of-out
-shape_of-out c = c.close_on-number.auto.1.0
+shape_of-out c = c.close_on-number.auto.out
 
 pub returns : goal.returns
 returns c =

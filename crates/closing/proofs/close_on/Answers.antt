@@ -8,15 +8,16 @@ use Rattle.closing_rules.specs.Closing.{closing_rule}
 use Rattle.closing.specs.Laws.ClosingReady.{listed, closing_accepted, closing_refused}
 use Rattle.record_layout.specs.OnBytes.{record_in}
 use Rattle.closing.proofs.close_on.Goals as goal
+use Rattle.closing.proofs.close_on.Goals.{Then-number-eq0}
 
 -- in the first branch: what was read, and that the call is accepted
-head : (c : goal.Then-number-eq0) →
+head : (c : Then-number-eq0) →
     let counts = c.before.before.before in
     let terms = counts.before.before in
     HeadRead terms.args.s-1.now terms.load_terms-terms.result counts.load_counts-counts.result
 head c = search rules
 
-accepted : (c : goal.Then-number-eq0) →
+accepted : (c : Then-number-eq0) →
     let terms = c.before.before.before.before.before in
     let a = terms.args in
     number_on (closing_rule (length a.out-1.now)) (record_in a.s-1.now) ≡ 0
@@ -41,5 +42,5 @@ returns-then-number-eq0 c =
     let lists = totals.before.before.before.before.before in
     closing_accepted _ _ (accepted lists.before.before.before.before.before) totals.enter.ensures lists.make_lists.ensures
 
-pub returns-then-number-eq0 : goal.returns
-returns-then-number-eq0 c = closing_refused _ _ c.refusal_on-number.ensures c.if-number-eq0.false
+pub returns : goal.returns
+returns c = closing_refused _ _ c.refusal_on-number.ensures c.if-number-eq0.false

@@ -6,12 +6,13 @@ use Rattle.record.specs.Book.{by_hours}
 use Rattle.record.specs.Stored.{figures}
 use Rattle.record_layout.specs.OnBytes.{book_in}
 use Rattle.closing.proofs.make_lists.Goals as goal
+use Rattle.closing.proofs.make_lists.Goals.{After-apply, Start}
 
 -- what the test told is so of the record
-abbrev start : goal.After-apply → goal.Start
+abbrev start : After-apply → Start
 start c = c.before.before.before
 
-told : (c : goal.After-apply) → c.apply.result ≡ by_hours (book_in (start c).args.s.now)
+told : (c : After-apply) → c.apply.result ≡ by_hours (book_in (start c).args.s.now)
 unfolding figures
 told c = let e = (start c).requires.1.0 in c.apply.ensures ∙ (λ i. hours_apply (e i).month (e i).closings)
 

@@ -7,8 +7,9 @@ use Rattle.record.specs.Sound.{sound}
 use Rattle.closing_rules.specs.Laws.ClosingRefusals.{record_refusal}
 use Rattle.record_layout.specs.OnBytes.{book_in}
 use Rattle.closing.proofs.refusal_on.Goals as goal
+use Rattle.closing.proofs.refusal_on.Goals.{Then-is_sound}
 
-passed : (c : goal.Then-is_sound) → sound (book_in c.args.s.now) ≡ true
+passed : (c : Then-is_sound) → sound (book_in c.args.s.now) ≡ true
 passed c = sym c.is_sound.ensures ∙ c.if-is_sound.true
 
 pub refusal-requires : goal.refusal-requires

@@ -11,15 +11,16 @@ use Rattle.class_bank.specs.Laws.ClassBankLaws.{draw_within}
 use Rattle.closing_by_hours.specs.Laws.HoursDrawing.{Drawn, TurnDrawn, drawing_start, turn_drawn, wants_are, apart, lacking_low, lacking_sum, drawing_step}
 use borrow.Author.Rules.{rules}
 use Rattle.closing_by_hours.proofs.draw_all.Goals as goal
+use Rattle.closing_by_hours.proofs.draw_all.Goals.{After-draw-turn, After-lacking-1, In-loop-c, Start}
 
 pub loop-c-init : goal.loop-c-init
 loop-c-init c = let p = c.requires in (drawing_start _ p.0.size p.0.stock_is p.1, search rules)
 
 -- in the loop: where the function started, and the consumer whose turn it is
 abbrev In : Type 0
-In = goal.In-loop-c
+In = In-loop-c
 
-abbrev start : In → goal.Start
+abbrev start : In → Start
 start i = i.before.before.before.before
 
 abbrev consumer : In → ℕ
@@ -44,10 +45,10 @@ pub wanted_at-want-requires : goal.wanted_at-want-requires
 wanted_at-want-requires c = let i = c.before.before in ((start i).requires.0.whole, within i)
 
 -- when a consumer has drawn: where its turn began, and what it drew
-abbrev drew : goal.After-draw-turn → In
+abbrev drew : After-draw-turn → In
 drew d = d.before.before.before.before
 
-turned : (d : goal.After-draw-turn) → TurnDrawn (book_in (start (drew d)).args.s.now) (consumer (drew d)) d.draw-turn.result
+turned : (d : After-draw-turn) → TurnDrawn (book_in (start (drew d)).args.s.now) (consumer (drew d)) d.draw-turn.result
 unfolding figures
 turned d =
     let i = drew d in
@@ -55,7 +56,7 @@ turned d =
     let gs = d.suppliers_at-suppliers.ensures in
     turn_drawn _ _ _ _ _ i.loop-c.inv.0.left_is gs.0 (wants_are _ _ p.hours_apply (within i) d.wanted_at-want.ensures) (d.draw-turn.ensures ∙ draw_within _ _ _ _ gs.1)
 
-lacks_low : (d : goal.After-draw-turn) → let left = d.draw-turn.result.left in get_or left 0 0 + get_or left 1 0 + get_or left 2 0 ≤ most_figure
+lacks_low : (d : After-draw-turn) → let left = d.draw-turn.result.left in get_or left 0 0 + get_or left 1 0 + get_or left 2 0 ≤ most_figure
 lacks_low d = omega (arith, lacking_sum _ _ (turned d), lacking_low _ (start (drew d)).requires.0.facts (consumer (drew d)))
 
 pub by_generator-column-requires : goal.by_generator-column-requires
@@ -71,7 +72,7 @@ put_column-requires c =
     (i.loop-c.inv.0.drawn_is.size, (few i, (narrow i, i.loop-c-test.true)))
 
 -- when its column is put: when it drew
-abbrev spent : goal.After-lacking-1 → goal.After-draw-turn
+abbrev spent : After-lacking-1 → After-draw-turn
 spent l = l.before.before.before.before.before.before.before.before.before.before
 
 pub overflow_add-supplied : goal.overflow_add-supplied

@@ -15,9 +15,10 @@ use Rattle.closing_by_hours.specs.Laws.ByGenerator.{summed}
 use Rattle.closing_by_hours.specs.Laws.HoursDrawing.{Drawable}
 use Rattle.closing_by_hours.specs.Laws.HoursMade.{n_high, m_high, output_long, draw_ready, charge_adds, charges, lapsed_adds, lists_are}
 use Rattle.closing_by_hours.proofs.make.Goals as goal
+use Rattle.closing_by_hours.proofs.make.Goals.{After-credit-credit, After-draw_all-drawing, After-lapsed-1, After-load16-outstanding, Start}
 
 -- no more generators than the record has places for
-few_at : (c : goal.Start) → c.args.terms.generators ≤ 8
+few_at : (c : Start) → c.args.terms.generators ≤ 8
 few_at c = let p = c.requires in n_high _ _ _ p.0 p.1.0 p.1.1.0 p.1.1.1
 
 pub overflow_mul-count : goal.overflow_mul-count
@@ -30,22 +31,22 @@ pub of_classes-pending-requires : goal.of_classes-pending-requires
 of_classes-pending-requires c = let b = c.before.before.before in (b.requires.0, (omega arith, omega (arith, few_at b)))
 
 -- when all is read: where the function started
-abbrev start : goal.After-load16-outstanding → goal.Start
+abbrev start : After-load16-outstanding → Start
 start c = c.before.before.before.before.before
 
-abbrev size : goal.After-load16-outstanding → ℕ
+abbrev size : After-load16-outstanding → ℕ
 size c = (start c).args.terms.generators * (start c).args.terms.consumers
 
-few : (c : goal.After-load16-outstanding) → (start c).args.terms.generators ≤ 8
+few : (c : After-load16-outstanding) → (start c).args.terms.generators ≤ 8
 few c = few_at (start c)
 
-narrow : (c : goal.After-load16-outstanding) → (start c).args.terms.consumers ≤ 16
+narrow : (c : After-load16-outstanding) → (start c).args.terms.consumers ≤ 16
 narrow c = let p = (start c).requires in m_high _ _ _ p.0 p.1.0 p.1.1.0 p.1.1.1
 
-small : (c : goal.After-load16-outstanding) → size c ≤ 128
+small : (c : After-load16-outstanding) → size c ≤ 128
 small c = mul-le-mul (few c) (narrow c)
 
-long : (c : goal.After-load16-outstanding) → let a = (start c).args in length a.out-1.now ≡ size c + (3 * a.terms.generators + 2 * a.terms.consumers)
+long : (c : After-load16-outstanding) → let a = (start c).args in length a.out-1.now ≡ size c + (3 * a.terms.generators + 2 * a.terms.consumers)
 long c = let p = (start c).requires in output_long _ _ _ p.0 p.1.0 p.1.1.0 p.1.1.1
 
 pub overflow_mul-size : goal.overflow_mul-size
@@ -55,7 +56,7 @@ pub slice_bounds-draw_all-end : goal.slice-bounds-draw-all-end
 slice_bounds-draw_all-end c = let l = long c.before.before in search rules
 
 -- step 1 on what was read
-ready : (c : goal.After-credit-credit) → let r = c.before in Drawable (start r).args.s.now c.credit-credit.result.bank (start r).args.terms.generators (start r).args.terms.consumers
+ready : (c : After-credit-credit) → let r = c.before in Drawable (start r).args.s.now c.credit-credit.result.bank (start r).args.terms.generators (start r).args.terms.consumers
 ready c =
     let r = c.before in
     let p = (start r).requires in
@@ -68,29 +69,29 @@ draw_all-drawing-requires c =
     (ready credited, mid_len 0 (size r) (start r).args.out-1.now (omega (arith, long r)) ∙ omega arith)
 
 -- when the steps are done: when all had drawn, what was read, and the slice with drawn's list in it
-abbrev drew : goal.After-lapsed-1 → goal.After-draw_all-drawing
+abbrev drew : After-lapsed-1 → After-draw_all-drawing
 drew b = b.before.before.before.before.before.before
 
-abbrev credited : goal.After-lapsed-1 → goal.After-credit-credit
+abbrev credited : After-lapsed-1 → After-credit-credit
 credited b = (drew b).before.before.before
 
-abbrev seen : goal.After-lapsed-1 → goal.After-load16-outstanding
+abbrev seen : After-lapsed-1 → After-load16-outstanding
 seen b = (credited b).before
 
-abbrev drawn : goal.After-lapsed-1 → List ℕ
-drawn b = (drew b).draw_all-drawing.new.1.1.1.1.0
+abbrev drawn : After-lapsed-1 → List ℕ
+drawn b = (drew b).draw_all-drawing.new.drawn
 
-abbrev slice : goal.After-lapsed-1 → List ℕ
+abbrev slice : After-lapsed-1 → List ℕ
 slice b = put_mid 0 (size (seen b) - 0) (start (seen b)).args.out-1.now (drawn b)
 
-wrote : (b : goal.After-lapsed-1) → Written (start (seen b)).args.out-1.now (size (seen b)) (drawn b ∷ []) (slice b)
+wrote : (b : After-lapsed-1) → Written (start (seen b)).args.out-1.now (size (seen b)) (drawn b ∷ []) (slice b)
 wrote b = written_more (size (seen b)) (written_none _) refl (omega (arith, (drew b).draw_all-drawing.ensures.drawn_is.size))
 
-whole : (b : goal.After-lapsed-1) → length (slice b) ≡ length (start (seen b)).args.out-1.now
+whole : (b : After-lapsed-1) → length (slice b) ≡ length (start (seen b)).args.out-1.now
 whole b = written_length (wrote b) (omega (arith, long (seen b)))
 
 -- the rest of it is as long as the other lists
-room : (b : goal.After-lapsed-1) →
+room : (b : After-lapsed-1) →
     let t = (start (seen b)).args.terms in
     length (mid_of (size (seen b)) (length (slice b) - size (seen b)) (slice b)) ≡ 3 * t.generators + 2 * t.consumers
 room b = mid_len (size (seen b)) (length (slice b)) (slice b) (omega arith) ∙ omega (arith, whole b, long (seen b))
@@ -121,7 +122,7 @@ returns c =
     let b = w.before.before in
     let r = seen b in
     let p = (start r).requires in
-    let all = written_more {ys = w.write_sums.new.0} (length (slice b)) (wrote b) refl (omega (arith, whole b, long r, room b, w.write_sums.auto.0)) in
+    let all = written_more {ys = w.write_sums.new.out} (length (slice b)) (wrote b) refl (omega (arith, whole b, long r, room b, w.write_sums.auto.out)) in
     let charged = charges _ _ _ p.0 p.1.0 p.1.1.0 p.1.1.1 r.of_classes-held.ensures r.of_classes-pending.ensures (credited b).credit-credit.ensures refl in
     let lapsed = ap (λ (x : ClassLapse). summed x.lapsed (start r).args.terms.generators) b.lapse-lapse.ensures in
     written_all all (sym (whole b)) ∙ ap (λ (xs : List ℕ). joined (drawn b ∷ xs ∷ [])) w.write_sums.ensures ∙

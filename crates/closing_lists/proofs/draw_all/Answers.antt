@@ -10,15 +10,16 @@ use Rattle.closing_lists.specs.Laws.DrawingSteps.{Drawn, drawing_start, drawing_
 use native.Mathlib.Omega.{arith}
 use borrow.Author.Rules.{rules}
 use Rattle.closing_lists.proofs.draw_all.Goals as goal
+use Rattle.closing_lists.proofs.draw_all.Goals.{After-draw-turn, In-loop-c, Start}
 
 pub loop-c-init : goal.loop-c-init
 loop-c-init c = (drawing_start _ _ _ _ _ (search rules), search rules)
 
 -- in the loop: where the function started, what it was handed, and the consumer whose turn it is
 abbrev In : Type 0
-In = goal.In-loop-c
+In = In-loop-c
 
-abbrev start : In → goal.Start
+abbrev start : In → Start
 start i = i.before.before.before.before
 
 abbrev consumer : In → ℕ
@@ -33,7 +34,7 @@ suppliers_at-suppliers-requires i =
     record { whole = (start i).requires.0; n_is = p.G_is; n_high = p.G_high; c_high = search rules; orderable = p.orderable }
 
 -- when a consumer has drawn: where its turn began
-abbrev drew : goal.After-draw-turn → In
+abbrev drew : After-draw-turn → In
 drew d = d.before.before.before
 
 pub put_column-requires : goal.put_column-requires

@@ -14,26 +14,27 @@ use Rattle.closing_lists.specs.Laws.ClosingReading.{steps_read}
 use native.Mathlib.Omega.{arith}
 use borrow.Author.Rules.{rules}
 use Rattle.closing_lists.proofs.make.Goals as goal
+use Rattle.closing_lists.proofs.make.Goals.{After-balance-1, After-draw_all-drawing, After-lapse-lapse, After-load16-outstanding, Start}
 
 -- when all is read: where the function started, and what was handed down and read of the record
-abbrev start : goal.After-load16-outstanding → goal.Start
+abbrev start : After-load16-outstanding → Start
 start c = c.before.before.before.before.before
 
-abbrev size : goal.After-load16-outstanding → ℕ
+abbrev size : After-load16-outstanding → ℕ
 size c = (start c).args.terms.generators * (start c).args.terms.consumers
 
-read : (c : goal.After-load16-outstanding) →
+read : (c : After-load16-outstanding) →
     let a = (start c).args in
     StepsRead (record_in a.s.now) a.terms a.counts a.switch c.load8-held.result c.load8-pending.result c.load16-outstanding.result
 read c = steps_read _ (start c).requires.0 (start c).requires.1.0 c.load8-held.ensures c.load8-pending.ensures c.load16-outstanding.ensures
 
-ready : (c : goal.After-load16-outstanding) → let a = (start c).args in Drawable (plan_in a.s.now) a.terms.generators a.terms.consumers
+ready : (c : After-load16-outstanding) → let a = (start c).args in Drawable (plan_in a.s.now) a.terms.generators a.terms.consumers
 ready c = draw_ready _ _ (start c).requires.1.1.1 (read c)
 
-small : (c : goal.After-load16-outstanding) → size c ≤ 128
+small : (c : After-load16-outstanding) → size c ≤ 128
 small c = mul-le-mul (ready c).G_high (ready c).C_high
 
-long : (c : goal.After-load16-outstanding) → let a = (start c).args in length a.out-1.now ≡ size c + (3 * a.terms.generators + 2 * a.terms.consumers)
+long : (c : After-load16-outstanding) → let a = (start c).args in length a.out-1.now ≡ size c + (3 * a.terms.generators + 2 * a.terms.consumers)
 long c = output_long _ _ (start c).requires.1.1.1 (read c)
 
 pub overflow_mul-size : goal.overflow_mul-size
@@ -48,29 +49,29 @@ draw_all-drawing-requires c =
     ((start r).requires.0.whole, (ready r, mid_len 0 (size r) (start r).args.out-1.now (omega (arith, long r)) ∙ omega arith))
 
 -- when the steps are done: when all had drawn, what was read, and the slice with drawn's list in it
-abbrev lapsed : goal.After-balance-1 → goal.After-lapse-lapse
+abbrev lapsed : After-balance-1 → After-lapse-lapse
 lapsed b = b.before.before.before
 
-abbrev drew : goal.After-balance-1 → goal.After-draw_all-drawing
+abbrev drew : After-balance-1 → After-draw_all-drawing
 drew b = (lapsed b).before.before.before.before.before.before
 
-abbrev seen : goal.After-balance-1 → goal.After-load16-outstanding
+abbrev seen : After-balance-1 → After-load16-outstanding
 seen b = (drew b).before.before.before.before
 
-abbrev drawn : goal.After-balance-1 → List ℕ
-drawn b = (drew b).draw_all-drawing.new.1.1.1.1.1.0
+abbrev drawn : After-balance-1 → List ℕ
+drawn b = (drew b).draw_all-drawing.new.drawn
 
-abbrev slice : goal.After-balance-1 → List ℕ
+abbrev slice : After-balance-1 → List ℕ
 slice b = put_mid 0 (size (seen b) - 0) (start (seen b)).args.out-1.now (drawn b)
 
-wrote : (b : goal.After-balance-1) → Written (start (seen b)).args.out-1.now (size (seen b)) (drawn b ∷ []) (slice b)
+wrote : (b : After-balance-1) → Written (start (seen b)).args.out-1.now (size (seen b)) (drawn b ∷ []) (slice b)
 wrote b = written_more (size (seen b)) (written_none _) refl (omega (arith, (drew b).draw_all-drawing.ensures.drawn_is.size))
 
-whole : (b : goal.After-balance-1) → length (slice b) ≡ length (start (seen b)).args.out-1.now
+whole : (b : After-balance-1) → length (slice b) ≡ length (start (seen b)).args.out-1.now
 whole b = written_length (wrote b) (omega (arith, long (seen b)))
 
 -- the rest of it is as long as the other lists
-room : (b : goal.After-balance-1) →
+room : (b : After-balance-1) →
     let t = (start (seen b)).args.terms in
     length (mid_of (size (seen b)) (length (slice b) - size (seen b)) (slice b)) ≡ 3 * t.generators + 2 * t.consumers
 room b = mid_len (size (seen b)) (length (slice b)) (slice b) (omega arith) ∙ omega (arith, whole b, long (seen b))
@@ -94,6 +95,6 @@ returns c =
     let w = c.before.before in
     let b = w.before.before in
     let r = seen b in
-    let all = written_more {ys = w.write_lists.new.0} (length (slice b)) (wrote b) refl (omega (arith, whole b, long r, room b, w.write_lists.auto.0)) in
+    let all = written_more {ys = w.write_lists.new.out} (length (slice b)) (wrote b) refl (omega (arith, whole b, long r, room b, w.write_lists.auto.out)) in
     written_all all (sym (whole b)) ∙ ap (λ (xs : List ℕ). joined (drawn b ∷ xs ∷ [])) w.write_lists.ensures ∙
     lists_are _ _ (start r).requires.1.1.1 (read r) (start r).requires.1.1.0 (drew b).credit-credit.ensures (drew b).draw_all-drawing.ensures (lapsed b).lapse_due-due.ensures (lapsed b).lapse-lapse.ensures

@@ -6,12 +6,13 @@ use Rattle.closing_lists.specs.Laws.ClosingWritten.{five_lists}
 use native.Mathlib.Omega.{arith}
 use borrow.Author.Rules.{rules}
 use Rattle.closing_lists.proofs.write_lists.Goals as goal
+use Rattle.closing_lists.proofs.write_lists.Goals.{After-put_list, After-put_list-4, Start}
 
 -- after the fourth list: after the first, and where the function started
-abbrev first : goal.After-put_list-4 → goal.After-put_list
+abbrev first : After-put_list-4 → After-put_list
 first c = let c₃ = c.before.before.before.before.before in let c₂ = c₃.before.before.before.before.before in c₂.before.before.before.before.before
 
-abbrev start : goal.After-put_list-4 → goal.Start
+abbrev start : After-put_list-4 → Start
 start c = (first c).before.before.before.before
 
 pub slice_bounds-put_list-end-5 : goal.slice_bounds-put_list-end-5

@@ -14,14 +14,14 @@ pub clear_numbers-requires-2 : goal.clear_numbers-requires-2
 clear_numbers-requires-2 c =
     let bank = c.before.before.before in
     let start = bank.before.before.before in
-    record { size = bank.clear_numbers.auto.0 ∙ start.requires.0.size; placed = omega (arith, start.requires.0.placed) }
+    record { size = bank.clear_numbers.auto.s ∙ start.requires.0.size; placed = omega (arith, start.requires.0.placed) }
 
 pub clear_numbers-requires-3 : goal.clear_numbers-requires-3
 clear_numbers-requires-3 c =
     let pending = c.before.before.before in
     let bank = pending.before.before.before.before in
     let start = bank.before.before.before in
-    record { size = pending.clear_numbers-2.auto.0 ∙ bank.clear_numbers.auto.0 ∙ start.requires.0.size; placed = omega (arith, start.requires.0.placed) }
+    record { size = pending.clear_numbers-2.auto.s ∙ bank.clear_numbers.auto.s ∙ start.requires.0.size; placed = omega (arith, start.requires.0.placed) }
 
 pub returns : goal.returns
 returns c =

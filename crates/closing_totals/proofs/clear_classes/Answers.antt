@@ -14,14 +14,14 @@ pub clear_class-requires-then-apply : goal.clear_class-requires-then-apply
 clear_class-requires-then-apply c =
     let first = c.before.before.before in
     let start = first.before.before.before.before.before in
-    (record { size = first.clear_class.auto.0 ∙ start.requires.0; placed = omega arith }, (start.requires.1.0, omega (arith, start.requires.1.1)))
+    (record { size = first.clear_class.auto.s ∙ start.requires.0; placed = omega arith }, (start.requires.1.0, omega (arith, start.requires.1.1)))
 
 pub clear_class-requires-then-apply-2 : goal.clear_class-requires-then-apply-2
 clear_class-requires-then-apply-2 c =
     let second = c.before.before.before in
     let first = second.before.before.before.before in
     let start = first.before.before.before.before.before in
-    (record { size = second.clear_class-then-apply.auto.0 ∙ first.clear_class.auto.0 ∙ start.requires.0; placed = omega arith }, (start.requires.1.0, omega (arith, start.requires.1.1)))
+    (record { size = second.clear_class-then-apply.auto.s ∙ first.clear_class.auto.s ∙ start.requires.0; placed = omega arith }, (start.requires.1.0, omega (arith, start.requires.1.1)))
 
 pub returns-then-apply : goal.returns-then-apply
 returns-then-apply c =

@@ -5,18 +5,19 @@ use native.Mathlib.Omega.{arith}
 use borrow.Author.Rules.{rules}
 use Rattle.closing_totals.specs.Laws.ClosingAfterLaws.{gone_few, closings_few, totals_raisable, lists_stand, bytes_after}
 use Rattle.closing_totals.proofs.enter.Goals as goal
+use Rattle.closing_totals.proofs.enter.Goals.{After-clear_classes-arg-1, After-raise_totals, After-raise_totals-arg-1, After-replace_stocks, After-replace_stocks-arg-1, After-start_month, Start}
 
 -- the places behind each of the first three calls
-abbrev started : goal.After-raise_totals-arg-1 → goal.After-start_month
+abbrev started : After-raise_totals-arg-1 → After-start_month
 started c = c.before.before.before
 
-abbrev raised : goal.After-replace_stocks-arg-1 → goal.After-raise_totals
+abbrev raised : After-replace_stocks-arg-1 → After-raise_totals
 raised c = c.before.before.before
 
-abbrev replaced : goal.After-clear_classes-arg-1 → goal.After-replace_stocks
+abbrev replaced : After-clear_classes-arg-1 → After-replace_stocks
 replaced c = c.before.before.before
 
-abbrev entry : goal.After-start_month → goal.Start
+abbrev entry : After-start_month → Start
 entry c = c.before.before.before.before
 
 pub start_month-requires : goal.start_month-requires
@@ -26,14 +27,14 @@ pub raise_totals-requires : goal.raise_totals-requires
 raise_totals-requires c =
     let month = started c in
     let listed = (entry month).requires in
-    (totals_raisable listed (month.start_month.kept.0 ∙ listed.head.whole) month.start_month.ensures, lists_stand listed)
+    (totals_raisable listed (month.start_month.auto.s ∙ listed.head.whole) month.start_month.ensures, lists_stand listed)
 
 pub replace_stocks-requires : goal.replace_stocks-requires
 replace_stocks-requires c =
     let totals = raised c in
     let month = started totals.before in
     let listed = (entry month).requires in
-    (totals.raise_totals.kept.0 ∙ month.start_month.kept.0 ∙ listed.head.whole, lists_stand listed)
+    (totals.raise_totals.auto.s ∙ month.start_month.auto.s ∙ listed.head.whole, lists_stand listed)
 
 pub clear_classes-requires : goal.clear_classes-requires
 clear_classes-requires c =
@@ -42,7 +43,7 @@ clear_classes-requires c =
     let month = started totals.before in
     let listed = (entry month).requires in
     let lists = lists_stand listed in
-    (stocks.replace_stocks.kept.0 ∙ totals.raise_totals.kept.0 ∙ month.start_month.kept.0 ∙ listed.head.whole, (lists.generators_few, lists.consumers_few))
+    (stocks.replace_stocks.auto.s ∙ totals.raise_totals.auto.s ∙ month.start_month.auto.s ∙ listed.head.whole, (lists.generators_few, lists.consumers_few))
 
 pub returns : goal.returns
 returns c =
@@ -51,5 +52,5 @@ returns c =
     let totals = raised stocks.before in
     let month = started totals.before in
     let start = entry month in
-    let size = cleared.clear_classes.auto.0 ∙ stocks.replace_stocks.kept.0 ∙ totals.raise_totals.kept.0 ∙ month.start_month.kept.0 ∙ start.requires.head.whole in
+    let size = cleared.clear_classes.auto.s ∙ stocks.replace_stocks.auto.s ∙ totals.raise_totals.auto.s ∙ month.start_month.auto.s ∙ start.requires.head.whole in
     bytes_after start.requires _ size (λ i. omega (arith, c.slice_known-5-1.given i)) month.start_month.ensures totals.raise_totals.ensures stocks.replace_stocks.ensures cleared.clear_classes.ensures

@@ -9,6 +9,7 @@ use Rattle.record_runs.specs.Laws.RaiseLaws.{next_list, fewer}
 use Rattle.closing_totals.specs.Laws.ClosingTotalsLaws.{totals_all}
 use Rattle.record_places.specs.Laws.Places.{generator_drawn_at, lapsed_at, consumer_drawn_at, supplied_at}
 use Rattle.closing_totals.proofs.raise_totals.Goals as goal
+use Rattle.closing_totals.proofs.raise_totals.Goals.{After-raise_columns, After-raise_numbers, After-raise_numbers-2, After-raise_rows, Start}
 
 pub raise_numbers-requires : goal.raise_numbers-requires
 raise_numbers-requires c =
@@ -18,9 +19,9 @@ raise_numbers-requires c =
 
 -- after each list: where the function started, and that the n numbers from p on can be raised
 abbrev Behind : (p n : ℕ) (s : List ℕ) → Type 0
-Behind p n s = goal.Start × Raisable p n most_figure s
+Behind p n s = Start × Raisable p n most_figure s
 
-abbrev charged : (c : goal.After-raise_numbers) → Behind generator_drawn_at 8 c.raise_numbers.new.0
+abbrev charged : (c : After-raise_numbers) → Behind generator_drawn_at 8 c.raise_numbers.new.s
 charged c =
     let start = c.before.before.before.before in
     (start, next_list 8 8 start.requires.1.generators_few (omega arith) start.requires.0 c.raise_numbers.ensures)
@@ -31,7 +32,7 @@ raise_rows-requires c =
     let lists = x.0.requires.1 in
     (fewer _ _ lists.generators_few (omega arith) x.1, (omega (arith, lists.size), (lists.consumers_few, lists.moderate)))
 
-abbrev gave : (c : goal.After-raise_rows) → Behind lapsed_at 8 c.raise_rows.new.0
+abbrev gave : (c : After-raise_rows) → Behind lapsed_at 8 c.raise_rows.new.s
 gave c =
     let x = charged c.before.before.before.before in
     (x.0, next_list 8 8 x.0.requires.1.generators_few (omega arith) x.1 c.raise_rows.ensures)
@@ -42,7 +43,7 @@ raise_numbers-requires-2 c =
     let lists = x.0.requires.1 in
     (fewer _ _ lists.generators_few (omega arith) x.1, (omega (arith, lists.size), lists.moderate))
 
-abbrev lapsed : (c : goal.After-raise_numbers-2) → Behind consumer_drawn_at 48 c.raise_numbers-2.new.0
+abbrev lapsed : (c : After-raise_numbers-2) → Behind consumer_drawn_at 48 c.raise_numbers-2.new.s
 lapsed c =
     let x = gave c.before.before.before.before in
     (x.0, next_list 72 48 (omega (arith, x.0.requires.1.generators_few)) (omega arith) x.1 c.raise_numbers-2.ensures)
@@ -53,7 +54,7 @@ raise_columns-requires c =
     let lists = x.0.requires.1 in
     (fewer _ _ (omega (arith, lists.consumers_few)) (omega arith) x.1, (omega (arith, lists.size), (lists.generators_few, lists.moderate)))
 
-abbrev took : (c : goal.After-raise_columns) → Behind supplied_at 16 c.raise_columns.new.0
+abbrev took : (c : After-raise_columns) → Behind supplied_at 16 c.raise_columns.new.s
 took c =
     let x = lapsed c.before.before.before.before in
     (x.0, next_list 16 16 x.0.requires.1.consumers_few (omega arith) x.1 c.raise_columns.ensures)

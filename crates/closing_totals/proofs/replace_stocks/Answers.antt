@@ -15,14 +15,14 @@ pub clear_numbers-requires : goal.clear_numbers-requires
 clear_numbers-requires c =
     let replaced = c.before.before.before in
     let start = replaced.before.before.before.before in
-    record { size = replaced.replace_numbers.auto.0 ∙ start.requires.0; placed = omega (arith, start.requires.1.generators_few) }
+    record { size = replaced.replace_numbers.auto.s ∙ start.requires.0; placed = omega (arith, start.requires.1.generators_few) }
 
 pub clear_numbers-requires-2 : goal.clear_numbers-requires-2
 clear_numbers-requires-2 c =
     let cleared = c.before.before.before in
     let replaced = cleared.before.before.before.before in
     let start = replaced.before.before.before.before in
-    record { size = cleared.clear_numbers.auto.0 ∙ replaced.replace_numbers.auto.0 ∙ start.requires.0; placed = omega (arith, start.requires.1.consumers_few) }
+    record { size = cleared.clear_numbers.auto.s ∙ replaced.replace_numbers.auto.s ∙ start.requires.0; placed = omega (arith, start.requires.1.consumers_few) }
 
 pub returns : goal.returns
 returns c =

@@ -17,7 +17,7 @@ loop-i-preserved c =
     let call = c.before.before in
     let at = call.before.before.before.before in
     let start = at.before.before.before in
-    (omega arith, (call.put8.auto.1.0 ∙ at.loop-i.invariant.1.0, put_more start.args.ws.now at.loop-i.i (omega arith) at.loop-i.invariant.1.1 (rw call.put8.ensures (put_one 8 _ _ _ (omega arith) (at.shared_slice_known-1.given at.loop-i.i).fits))))
+    (omega arith, (call.put8.auto.s ∙ at.loop-i.invariant.1.0, put_more start.args.ws.now at.loop-i.i (omega arith) at.loop-i.invariant.1.1 (rw call.put8.ensures (put_one 8 _ _ _ (omega arith) (at.shared_slice_known-1.given at.loop-i.i).fits))))
 
 pub returns : goal.returns
 returns c =

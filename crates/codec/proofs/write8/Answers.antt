@@ -7,4 +7,4 @@ use Rattle.codec.proofs.write8.Goals as goal
 pub returns : goal.returns
 returns c =
     let call = c.before.before in
-    put_all call.put8s.ensures (omega (arith, call.put8s.auto.1.0))
+    put_all call.put8s.ensures (omega (arith, call.put8s.auto.s))

@@ -8,9 +8,10 @@ use Rattle.energy.specs.Energy.{loss_on}
 use Rattle.energy.specs.Limits.{most_loss}
 use Rattle.energy.specs.Laws.EnergyLaws.{loss_split}
 use Rattle.energy.proofs.loss.Goals as goal
+use Rattle.energy.proofs.loss.Goals.{After-in_ten_thousands-whole}
 
 -- once the energy is split
-module _ (k : goal.After-in_ten_thousands-whole) where
+module _ (k : After-in_ten_thousands-whole) where
   abbrev whole : ℕ
   whole = k.in_ten_thousands-whole.result.whole
 

@@ -20,6 +20,6 @@ never s n e = rw (eq-eqb s 0 e)
 pub returns-then-switch-eq0 : goal.returns-then-switch-eq0
 returns-then-switch-eq0 c = never c.args.switch c.args.closings (omega arith)
 
-pub returns-then-switch-eq0 : goal.returns
+pub returns : goal.returns
 unfolding hours_apply
-returns-then-switch-eq0 c = let a = c.args in rw (ne_eqb a.switch 0 (λ e. omega arith)) (one_more a.switch a.closings (omega arith))
+returns c = let a = c.args in rw (ne_eqb a.switch 0 (λ e. omega arith)) (one_more a.switch a.closings (omega arith))

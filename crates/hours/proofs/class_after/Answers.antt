@@ -35,9 +35,9 @@ returns-then-in_range-2 c =
     let first = other.before in
     is_peak (slot_after first.args.month) first.sizes_in_range.ensures second.in_range-2.ensures third.in_range-3.ensures other.if-in_range.false c.if-in_range-2.true
 
-pub returns-then-in_range : goal.returns
+pub returns : goal.returns
 unfolding slot_after
-returns-then-in_range c =
+returns c =
     let third = c.before in
     let second = third.before in
     let other = second.before in

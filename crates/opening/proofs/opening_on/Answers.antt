@@ -18,6 +18,6 @@ returns-then-number-eq0 c =
     let branch = call.before.before in
     record { number_is = sym (sym branch.refusal-number.ensures ∙ branch.if-number-eq0.true); record_is = call.store_opened.ensures }
 
-pub returns-then-number-eq0 : goal.returns
+pub returns : goal.returns
 unfolding bytes_after
-returns-then-number-eq0 c = record { number_is = c.refusal-number.ensures; record_is = rw (ne_eqb _ 0 c.if-number-eq0.false) }
+returns c = record { number_is = c.refusal-number.ensures; record_is = rw (ne_eqb _ 0 c.if-number-eq0.false) }

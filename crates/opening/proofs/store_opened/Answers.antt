@@ -7,39 +7,40 @@ use Rattle.record.specs.declared.Record.{Record}
 use Rattle.record_layout.specs.Laws.Layout.{laid_then, laid_all, words_parts}
 use Rattle.agreement_rules.specs.Laws.AgreedPartsLaws.{opened_parts}
 use Rattle.opening.proofs.store_opened.Goals as goal
+use Rattle.opening.proofs.store_opened.Goals.{After-store_agreed, After-store_consumers, After-store_counts, After-store_generators, After-store_links, After-store_schedule, After-store_stocks, After-store_stocks-2, After-store_stocks-3, After-store_switch, After-store_terms, Start}
 
 -- the call that stored a part, seen from the one that stored the next; where the function started, seen from the links
-abbrev terms_of : goal.After-store_counts → goal.After-store_terms
+abbrev terms_of : After-store_counts → After-store_terms
 terms_of c = c.before.before.before.before.before
 
-abbrev counts_of : goal.After-store_agreed → goal.After-store_counts
+abbrev counts_of : After-store_agreed → After-store_counts
 counts_of c = c.before.before.before.before.before
 
-abbrev agreed_of_lem : goal.After-store_links → goal.After-store_agreed
+abbrev agreed_of_lem : After-store_links → After-store_agreed
 agreed_of_lem c = c.before.before.before.before.before
 
-abbrev links_of : goal.After-store_schedule → goal.After-store_links
+abbrev links_of : After-store_schedule → After-store_links
 links_of c = c.before.before.before.before.before
 
-abbrev schedule_of : goal.After-store_generators → goal.After-store_schedule
+abbrev schedule_of : After-store_generators → After-store_schedule
 schedule_of c = c.before.before.before.before.before
 
-abbrev generators_of : goal.After-store_consumers → goal.After-store_generators
+abbrev generators_of : After-store_consumers → After-store_generators
 generators_of c = c.before.before.before.before.before
 
-abbrev consumers_of : goal.After-store_switch → goal.After-store_consumers
+abbrev consumers_of : After-store_switch → After-store_consumers
 consumers_of c = c.before.before.before.before.before
 
-abbrev switch_of : goal.After-store_stocks → goal.After-store_switch
+abbrev switch_of : After-store_stocks → After-store_switch
 switch_of c = c.before.before.before.before.before
 
-abbrev offpeak_of : goal.After-store_stocks-2 → goal.After-store_stocks
+abbrev offpeak_of : After-store_stocks-2 → After-store_stocks
 offpeak_of c = c.before.before.before.before
 
-abbrev normal_of : goal.After-store_stocks-3 → goal.After-store_stocks-2
+abbrev normal_of : After-store_stocks-3 → After-store_stocks-2
 normal_of c = c.before.before.before.before
 
-abbrev start_of : goal.After-store_agreed → goal.Start
+abbrev start_of : After-store_agreed → Start
 start_of c = (terms_of (counts_of c)).before.before.before.before.before.before
 
 pub links_from-links-requires : goal.links_from-links-requires

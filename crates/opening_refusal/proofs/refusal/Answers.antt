@@ -12,18 +12,19 @@ use Rattle.agreement_rules.specs.Laws.AgreedReading.{Threes}
 use Rattle.agreement_rules.specs.Laws.AgreedRefusals.{Fitting}
 use Rattle.agreement_rules.specs.Laws.AgreedRefusalsLaws.{sizes_fitting, opening_number, opening_misfit}
 use Rattle.opening_refusal.proofs.refusal.Goals as goal
+use Rattle.opening_refusal.proofs.refusal.Goals.{After-terms_fit-term, Then-sizes_fit}
 
 -- where the lists have the lengths that are read, seen from the last test of what is given
-abbrev tested_on : goal.After-terms_fit-term → goal.Then-sizes_fit
+abbrev tested_on : After-terms_fit-term → Then-sizes_fit
 tested_on c = c.before.before.before.before.before.before
 
-fit : (c : goal.Then-sizes_fit) → let a = c.args in sizes_fit a.n a.m a.generator-list.now a.pair-list.now ≡ true
+fit : (c : Then-sizes_fit) → let a = c.args in sizes_fit a.n a.m a.generator-list.now a.pair-list.now ≡ true
 fit c = sym c.sizes_fit.ensures ∙ c.if-sizes_fit.true
 
-fitting : (c : goal.Then-sizes_fit) → let a = c.args in Fitting a.n a.m a.generator-list.now a.pair-list.now
+fitting : (c : Then-sizes_fit) → let a = c.args in Fitting a.n a.m a.generator-list.now a.pair-list.now
 fitting c = sizes_fitting _ _ _ _ (fit c)
 
-threes : (c : goal.Then-sizes_fit) (k : ℕ) → k < 3 → let a = c.args in Threes a.generator-list.now a.n k
+threes : (c : Then-sizes_fit) (k : ℕ) → k < 3 → let a = c.args in Threes a.generator-list.now a.n k
 threes c k h = record { size = (fitting c).generators_size; few = (fitting c).G_high; third = h }
 
 pub overflow_mul-count : goal.overflow_mul-count

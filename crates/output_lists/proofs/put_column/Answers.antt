@@ -6,11 +6,12 @@ use borrow.Author.Rules.{rules}
 use Rattle.output_lists.specs.Laws.Columns.{ColumnPut}
 use Rattle.output_lists.specs.Laws.ColumnsLaws.{put_start, put_step, Spot, spot}
 use Rattle.output_lists.proofs.put_column.Goals as goal
+use Rattle.output_lists.proofs.put_column.Goals.{In-loop-g}
 
 pub loop-g-init : goal.loop-g-init
 loop-g-init c = (put_start c.requires.0, search rules)
 
-at : (c : goal.In-loop-g) → let a = c.args in Spot a.n a.m c.loop-g.g a.c
+at : (c : In-loop-g) → let a = c.args in Spot a.n a.m c.loop-g.g a.c
 at c = let p = c.requires in spot _ _ _ _ (search rules) p.1.0 p.1.1.0 p.1.1.1
 
 pub overflow_mul-list : goal.overflow_mul-list
@@ -32,4 +33,4 @@ pub shape_of-list : goal.shape_of-list
 shape_of-list c = omega (arith, c.loop-g.invariant.0.size, c.requires.0)
 
 pub returns : goal.returns
-returns c = let l = c.loop in let e : l.g ≡ c.args.n = omega (arith, l.invariant.1) in rw e at l.invariant.0
+returns c = let l = c.loop-g in let e : l.g ≡ c.args.n = omega (arith, l.invariant.1) in rw e at l.invariant.0

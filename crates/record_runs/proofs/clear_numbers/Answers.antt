@@ -12,14 +12,14 @@ pub loop-k-init : goal.loop-k-init
 loop-k-init c = (omega arith, none_replaced)
 
 pub put_at-requires : goal.put_at-requires
-put_at-requires c = let l = c.loop in
+put_at-requires c = let l = c.loop-k in
     let able = c.requires in
     (l.invariant.1.size ∙ able.size, omega (arith, able.placed))
 
 pub loop-k-preserved : goal.loop-k-preserved
 loop-k-preserved c = let call = c.before.before in
-    let l = call.loop in
-    (omega arith, one_replaced l.invariant.1 refl call.put_at.auto.0 call.put_at.ensures.0)
+    let l = call.loop-k in
+    (omega arith, one_replaced l.invariant.1 refl call.put_at.auto.s call.put_at.ensures.0)
 
 pub returns : goal.returns
 returns c = all_replaced c.loop-k.invariant.1 (omega arith)

@@ -28,10 +28,10 @@ pub bounds-xs-first : goal.bounds-xs-first
 bounds-xs-first c = let start = c.before.before.before in omega (arith, row_within start.args.n start.args.m c.loop-g.g (omega arith))
 
 pub overflow_add-sum-in-loop-g-2 : goal.overflow_add-sum-in-loop-g-2
-overflow_add-sum-in-loop-g-2 c = let l = c.loop in let start = c.before.before.before in omega (arith, l.invariant.cap, start.requires.1.1.1.at (start.args.first + (l.g * start.args.m + start.args.c)))
+overflow_add-sum-in-loop-g-2 c = let l = c.loop-g in let start = c.before.before.before in omega (arith, l.invariant.cap, start.requires.1.1.1.at (start.args.first + (l.g * start.args.m + start.args.c)))
 
 pub loop-g-preserved : goal.loop-g-preserved
-loop-g-preserved c = let l = c.loop in let start = c.before.before.before in sum_step l.invariant (search rules) refl (start.requires.1.1.1.at (start.args.first + (l.g * start.args.m + start.args.c)))
+loop-g-preserved c = let l = c.loop-g in let start = c.before.before.before in sum_step l.invariant (search rules) refl (start.requires.1.1.1.at (start.args.first + (l.g * start.args.m + start.args.c)))
 
 pub returns : goal.returns
 returns c = sum_done c.loop-g.invariant (search rules)

@@ -18,14 +18,14 @@ pub add_at-requires : goal.add_at-requires
 add_at-requires c =
     let at-loop = c.before.before.before in
     let start = at-loop.before.before.before in
-    let l = at-loop.loop in
+    let l = at-loop.loop-c in
     let able = start.requires.0 in
     (l.invariant.1.size ∙ able.size, (omega (arith, able.placed), omega (arith, next_low able l.invariant.1, c.column_sum.ensures, column_cap start.args.n start.args.m start.args.first l.c start.requires.1.1.1)))
 
 pub loop-c-preserved : goal.loop-c-preserved
 loop-c-preserved c = let call = c.before.before in
-    let l = call.loop in
-    (omega arith, one_more l.invariant.1 call.column_sum.ensures call.add_at.auto.0 call.add_at.ensures)
+    let l = call.loop-c in
+    (omega arith, one_more l.invariant.1 call.column_sum.ensures call.add_at.auto.s call.add_at.ensures)
 
 pub returns : goal.returns
 returns c = all_raised c.loop-c.invariant.1 (omega arith)

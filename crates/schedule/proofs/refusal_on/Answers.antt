@@ -7,8 +7,9 @@ use Rattle.record.specs.Sound.{sound}
 use Rattle.schedule.specs.Laws.ScheduleEntered.{number_read}
 use Rattle.record_layout.specs.OnBytes.{book_in}
 use Rattle.schedule.proofs.refusal_on.Goals as goal
+use Rattle.schedule.proofs.refusal_on.Goals.{Then-is_sound}
 
-passed : (c : goal.Then-is_sound) → sound (book_in c.args.s.now) ≡ true
+passed : (c : Then-is_sound) → sound (book_in c.args.s.now) ≡ true
 passed c = sym c.is_sound.ensures ∙ c.if-is_sound.true
 
 pub refusal-requires : goal.refusal-requires

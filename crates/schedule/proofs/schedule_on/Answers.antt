@@ -19,5 +19,5 @@ returns-then-number-eq0 c =
     let accepted = called.before.before in
     schedule_accepted _ _ _ (sym accepted.refusal_on-number.ensures ∙ accepted.if-number-eq0.true) called.replace_schedule.ensures
 
-pub returns-then-number-eq0 : goal.returns
-returns-then-number-eq0 c = schedule_refused _ _ _ c.refusal_on-number.ensures c.if-number-eq0.false
+pub returns : goal.returns
+returns c = schedule_refused _ _ _ c.refusal_on-number.ensures c.if-number-eq0.false

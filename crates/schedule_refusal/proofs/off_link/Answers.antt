@@ -17,10 +17,10 @@ pub loop-g-init : goal.loop-g-init
 loop-g-init c = look_start
 
 pub overflow_mul-g : goal.overflow_mul-g
-overflow_mul-g c = let l = c.loop in omega (arith, (first_row_at l.g c.requires (search rules)).fits)
+overflow_mul-g c = let l = c.loop-g in omega (arith, (first_row_at l.g c.requires (search rules)).fits)
 
 pub row_off_link-found-requires : goal.row_off_link-found-requires
-row_off_link-found-requires c = let l = c.loop in (search rules, first_row_at l.g c.requires (search rules))
+row_off_link-found-requires c = let l = c.loop-g in (search rules, first_row_at l.g c.requires (search rules))
 
 pub loop-g-preserved : goal.loop-g-preserved
 loop-g-preserved c = look_step c.loop-g.invariant (search rules) (c.row_off_link-found.ensures ∙ row_off _ _ _ _ _ (search rules) (search rules) (search rules))

@@ -12,16 +12,16 @@ pub loop-g-init : goal.loop-g-init
 loop-g-init c = look_start
 
 pub overflow_mul-g : goal.overflow_mul-g
-overflow_mul-g c = let l = c.loop in omega (arith, (first_row_at l.g c.requires (search rules)).fits)
+overflow_mul-g c = let l = c.loop-g in omega (arith, (first_row_at l.g c.requires (search rules)).fits)
 
 pub row_total-total-requires : goal.row_total-total-requires
-row_total-total-requires c = let l = c.loop in first_row_at l.g c.requires (search rules)
+row_total-total-requires c = let l = c.loop-g in first_row_at l.g c.requires (search rules)
 
 pub loop-g-preserved : goal.loop-g-preserved
 loop-g-preserved c =
     let at-loop = c.before.before.before.before in
     let start = at-loop.before.before in
-    let l = at-loop.loop in
+    let l = at-loop.loop-g in
     look_step l.invariant (search rules) (row_over start.args.t1 _ _ _ _ _ (search rules) (search rules) c.row_total-total.ensures)
 
 pub returns : goal.returns

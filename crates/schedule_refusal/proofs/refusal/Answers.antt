@@ -8,14 +8,15 @@ use borrow.Author.Rules.{rules}
 use Rattle.agreement_rules.specs.Laws.AgreedReading.{RowsAt}
 use Rattle.agreement_rules.specs.Laws.AgreedRefusalsLaws.{schedule_number, schedule_misfit, schedule_sizes}
 use Rattle.schedule_refusal.proofs.refusal.Goals as goal
+use Rattle.schedule_refusal.proofs.refusal.Goals.{Then-kws-count}
 
 pub overflow_mul-count : goal.overflow_mul-count
 overflow_mul-count c = omega (arith, mul-le-mul c.requires.0 c.requires.1)
 
-sizes : (c : goal.Then-kws-count) → let a = c.args in (length a.kws.now ≡ a.n * a.m) × (length a.ranks.now ≡ a.n * a.m)
+sizes : (c : Then-kws-count) → let a = c.args in (length a.kws.now ≡ a.n * a.m) × (length a.ranks.now ≡ a.n * a.m)
 sizes c = let a = c.args in schedule_sizes a.n a.m a.kws.now a.ranks.now c.if-kws-count.true
 
-rows : (c : goal.Then-kws-count) → let a = c.args in RowsAt a.kws.now 0 a.n a.m
+rows : (c : Then-kws-count) → let a = c.args in RowsAt a.kws.now 0 a.n a.m
 rows c = let s = c.before.before.before in record { fits = omega (arith, (sizes c).0); few_rows = s.requires.0; few = s.requires.1 }
 
 pub off_link-unlinked-requires : goal.off_link-unlinked-requires

@@ -1,11 +1,11 @@
 -- `sharing::parts` is the table of the parts: what the figures passed bear together is the running share, and never more than the whole. Assumes nothing.
 use Prim.Native.Nat.{◌-◌}
-use mathlib.Core.Logic.{⊎_elim}
 use Rattle.lists.specs.Laws.TablesLaws.{fill_done}
 use Rattle.sharing.specs.Laws.ShareLaws.{Sharing, sharing_start, next_le, product_le, share_le, share_rises, sharing_step, sharing_skip}
 use native.Mathlib.Omega.{arith}
 use borrow.Author.Rules.{rules}
 use Rattle.sharing.proofs.parts.Goals as goal
+use Rattle.sharing.proofs.parts.Goals.{then-kw-c-gt0, else-kw-c-gt0}
 
 pub loop-c-init : goal.loop-c-init
 loop-c-init c = sharing_start
@@ -24,13 +24,12 @@ overflow_cast-out c = let s = c.before in omega (arith, share_le s.requires s.lo
 
 pub loop-c-preserved : goal.loop-c-preserved
 loop-c-preserved c =
-    let t = c.before in
-    let h = t.requires in
-    let i = t.loop-c.invariant in
-    ⊎_elim
-    (λ w. rw (w.1, w.2, w.3) (sharing_step h i t.loop-c-test.true))
-    (λ w. rw (w.1, w.2, w.3) (sharing_skip h i t.loop-c-test.true w.0.left))
-    c.if-kw-c-gt0.branch
+    let h = c.requires in
+    let i = c.loop-c.invariant in
+    elim c.if-kw-c-gt0.branch [
+      then-kw-c-gt0 w ↦ rw (w.out-is, w.sum-is, w.last-is) (sharing_step h i c.loop-c-test.true)
+      | else-kw-c-gt0 w ↦ rw (w.out-is, w.sum-is, w.last-is) (sharing_skip h i c.loop-c-test.true w.if-kw-c-gt0.false)
+    ]
 
 pub returns : goal.returns
 returns c = fill_done c.loop-c.invariant.made (search rules)

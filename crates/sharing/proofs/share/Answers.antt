@@ -18,5 +18,5 @@ pub returns-then-all-eq0 : goal.returns-then-all-eq0
 unfolding table
 returns-then-all-eq0 c = shared_none _ _ (search rules) (cc)
 
-pub returns-then-wide-gt-MOST_READING : goal.returns
-returns-then-wide-gt-MOST_READING c = c.parts.ensures ∙ shared_within _ _ (search rules) (omega arith)
+pub returns : goal.returns
+returns c = c.parts.ensures ∙ shared_within _ _ (search rules) (omega arith)

@@ -15,11 +15,11 @@ pub loop-c-init : goal.loop-c-init
 loop-c-init c = sum_start
 
 pub overflow_add-sum : goal.overflow_add-sum
-overflow_add-sum c = let b : Fits w32 (get_or c.args.t1 c.loop-c.c 0) = search rules in omega arith
+overflow_add-sum c = let b : Fits w32 (get_or c.args.kw c.loop-c.c 0) = search rules in omega arith
 
 pub loop-c-preserved : goal.loop-c-preserved
 loop-c-preserved c =
-    let kw = c.args.t1 in
+    let kw = c.args.kw in
     let i = c.loop-c.c in
     let b : Fits w32 (get_or kw i 0) = search rules in
     sum_step c.loop-c.invariant (search rules) (sym (place_in 16 kw i (search rules))) (omega arith)

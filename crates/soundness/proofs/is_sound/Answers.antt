@@ -5,11 +5,12 @@ use borrow.Author.Rules.{rules}
 use Rattle.sound_items.specs.Laws.SoundTests.{counts_test, CountsFit, counts_fit}
 use Rattle.soundness.specs.Laws.PlacesHeldLaws.{sound_held, unsound_held}
 use Rattle.soundness.proofs.is_sound.Goals as goal
+use Rattle.soundness.proofs.is_sound.Goals.{Then-counts_sound}
 
-passed : (c : goal.Then-counts_sound) → let a = c.args in counts_test a.terms a.counts ≡ true
+passed : (c : Then-counts_sound) → let a = c.args in counts_test a.terms a.counts ≡ true
 passed c = sym c.counts_sound.ensures ∙ c.if-counts_sound.true
 
-fit : (c : goal.Then-counts_sound) → let a = c.args in CountsFit a.terms.generators a.terms.consumers a.counts.unitblocks
+fit : (c : Then-counts_sound) → let a = c.args in CountsFit a.terms.generators a.terms.consumers a.counts.unitblocks
 fit c = counts_fit _ _ (passed c)
 
 pub agreed_all_sound-requires : goal.agreed_all_sound-requires

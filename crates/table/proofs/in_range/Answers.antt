@@ -20,8 +20,8 @@ returns-then-c-lt1 c =
     let s = c.before.before.before in
     simp (le-leb 1 s.args.g c.if-g-lt1.false, le-leb s.args.g 8 c.if-g-gt8.false, lt-leb 1 s.args.c c.if-c-lt1.true)
 
-pub returns-then-g-lt1 : goal.returns
+pub returns : goal.returns
 unfolding in_range within
-returns-then-g-lt1 c =
+returns c =
     let s = c.before.before.before in
     simp (le-leb 1 s.args.g c.if-g-lt1.false, le-leb s.args.g 8 c.if-g-gt8.false, le-leb 1 s.args.c c.if-c-lt1.false)

@@ -44,9 +44,9 @@ returns-then-starts_with c =
     let e = sym q ∙ sym c.starts_with.ensures ∙ c.if-starts_with.true in
     rw e (omega (arith, p.ends))
 
-pub returns-then-starts_with : goal.returns
+pub returns : goal.returns
 unfolding names_length
-returns-then-starts_with c =
+returns c =
     let after-put-names = c.before.before.before.before in
     let s = after-put-names.before.before.before in
     let r = ranged s.args.g s.args.c s.requires in

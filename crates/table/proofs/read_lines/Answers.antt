@@ -23,8 +23,8 @@ returns-then-out-k c =
     (sym after-well-formed.well_formed-2.ensures ∙ not-false _ c.if-not-well_formed.false)
     (omega (arith, c.count_values-k.ensures, c.if-out-k.true))
 
-pub returns-then-not-well_formed : goal.returns
-returns-then-not-well_formed c =
+pub returns : goal.returns
+returns c =
     let after-write-values = c.before.before.before in
     let at-if2 = after-write-values.before.before in
     let k = at-if2.before in

@@ -67,8 +67,8 @@ read_lines-requires c =
     let a = ranged _ _ (sym b.sizes_in_range.ensures ∙ not-false _ b.if-not-in_range.false) in
     omega arith
 
-pub returns-then-not-in_range : goal.returns
-returns-then-not-in_range c =
+pub returns : goal.returns
+returns c =
     let at-if2 = c.before.before.before.before.before in
     let b = at-if2.before in
     let s = b.before.before.before.before.before in
@@ -80,6 +80,6 @@ returns-then-not-in_range c =
     {text = s.args.text.now}
     s.args.out-1.now
     c.read_lines.result
-    c.read_lines.new.1.1.0
+    c.read_lines.new.out
     (begun r b.names_length-names.ensures at-if2.if-names-eq0.false)
     (rw (whole_part b.names_length-names.result s.args.text.now) at c.read_lines.ensures)

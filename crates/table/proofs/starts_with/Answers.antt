@@ -25,5 +25,5 @@ returns-then-text-i c =
 pub loop-i-preserved : goal.loop-i-preserved
 loop-i-preserved c = match_step c.loop-i.invariant (search rules) c.if-text-i.false
 
-pub returns-then-text-line : goal.returns
-returns-then-text-line c = match_done c.loop-i.invariant (search rules)
+pub returns : goal.returns
+returns c = match_done c.loop-i.invariant (search rules)

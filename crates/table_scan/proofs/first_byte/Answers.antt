@@ -12,6 +12,6 @@ pub returns-then-is_digit : goal.returns-then-is_digit
 unfolding first_byte
 returns-then-is_digit c = simp (sym c.is_digit.ensures ∙ c.if-is_digit.true)
 
-pub returns-then-is_digit : goal.returns
+pub returns : goal.returns
 unfolding first_byte
-returns-then-is_digit c = simp (sym c.is_digit.ensures ∙ c.if-is_digit.false)
+returns c = simp (sym c.is_digit.ensures ∙ c.if-is_digit.false)

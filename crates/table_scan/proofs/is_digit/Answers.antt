@@ -8,6 +8,6 @@ pub returns-then-b-lt48 : goal.returns-then-b-lt48
 unfolding is_digit within
 returns-then-b-lt48 c = simp (lt-leb 48 c.args.b c.if-b-lt48.true)
 
-pub returns-then-b-lt48 : goal.returns
+pub returns : goal.returns
 unfolding is_digit within
-returns-then-b-lt48 c = simp (le-leb 48 c.args.b c.if-b-lt48.false)
+returns c = simp (le-leb 48 c.args.b c.if-b-lt48.false)

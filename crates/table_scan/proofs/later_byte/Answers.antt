@@ -24,8 +24,8 @@ returns-then-b-sep c =
     let s = c.before.before.before in
     simp (sym c.is_digit.ensures ∙ c.if-is_digit.false, eq-eqb s.args.b s.args.sep c.if-b-sep.true)
 
-pub returns-then-is_digit : goal.returns
+pub returns : goal.returns
 unfolding later_byte
-returns-then-is_digit c =
+returns c =
     let s = c.before.before.before in
     simp (sym c.is_digit.ensures ∙ c.if-is_digit.false, ne_eqb s.args.b s.args.sep c.if-b-sep.false)

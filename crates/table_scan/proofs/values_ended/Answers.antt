@@ -7,6 +7,6 @@ pub returns-then-is_digit : goal.returns-then-is_digit
 unfolding values_ended
 returns-then-is_digit c = cc
 
-pub returns-then-is_digit : goal.returns
+pub returns : goal.returns
 unfolding values_ended
-returns-then-is_digit c = cc
+returns c = cc

@@ -18,7 +18,7 @@ put_decimal-requires c =
     record { fits = simp length-set (omega (arith, s.requires.1.fits, ap length (name_e s.args.g s.args.j (search rules)))) }
 
 pub shape_of-buf-then-j-g : goal.shape_of-buf-then-j-g
-shape_of-buf-then-j-g c = c.put_decimal.auto.1.0 ∙ simp length-set
+shape_of-buf-then-j-g c = c.put_decimal.auto.buf ∙ simp length-set
 
 pub returns-then-j-g : goal.returns-then-j-g
 returns-then-j-g c =
@@ -37,10 +37,10 @@ put_decimal-requires-2 c =
     record { fits = simp length-set (omega (arith, s.requires.1.fits, ap length (name_r s.args.g s.args.j (search rules)))) }
 
 pub shape_of-buf : goal.shape_of-buf
-shape_of-buf c = c.put_decimal-2.auto.1.0 ∙ simp length-set
+shape_of-buf c = c.put_decimal-2.auto.buf ∙ simp length-set
 
-pub returns-then-j-g : goal.returns
-returns-then-j-g c =
+pub returns : goal.returns
+returns c =
     let s = c.before.before.before.before.before.before in
     let e = name_r s.args.g s.args.j (search rules) in
     rw e (put_cons (omega (arith, s.requires.1.fits, ap length e)) c.put_decimal-2.ensures)

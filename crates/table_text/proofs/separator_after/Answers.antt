@@ -8,6 +8,6 @@ pub returns-then-i-w-eq0 : goal.returns-then-i-w-eq0
 unfolding separator_after
 returns-then-i-w-eq0 c = simp (eq-eqb _ 0 c.if-i-w-eq0.true)
 
-pub returns-then-i-w-eq0 : goal.returns
+pub returns : goal.returns
 unfolding separator_after
-returns-then-i-w-eq0 c = simp (ne_eqb _ 0 c.if-i-w-eq0.false)
+returns c = simp (ne_eqb _ 0 c.if-i-w-eq0.false)

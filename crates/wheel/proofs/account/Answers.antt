@@ -6,8 +6,8 @@ use Rattle.wheel.proofs.account.Goals as goal
 pub returns-then-number-ne0 : goal.returns-then-number-ne0
 returns-then-number-ne0 c = shows_refusal c.args.values.now c.month-a.ensures c.if-number-ne0.true c.refused.ensures
 
-pub returns-then-number-ne0 : goal.returns
-returns-then-number-ne0 c =
+pub returns : goal.returns
+returns c =
     let at-if1 = c.before.before.before in
     let after-month = at-if1.before in
     let start = after-month.before.before in

@@ -37,8 +37,8 @@ returns-then-number-eq14 c =
     b.read_table-read.ensures
     (shown_refused c.read-1.given.1 ∙ c.if-number-eq14.true)
 
-pub returns-then-text-le65536 : goal.returns
-returns-then-text-le65536 c =
+pub returns : goal.returns
+returns c =
     let at-if1 = c.before.before.before.before in
     let b = at-if1.before.before.before in
     input_long

@@ -12,10 +12,10 @@ returns-then-number-ne0 c = carried_stop c.enter_lines-number.ensures (closing 9
 pub close_month-requires : goal.close_month-requires
 close_month-requires c =
     let entered = c.before.before.before.before in
-    carried_ready entered.enter_lines-number.ensures c.if-number-ne0.false (omega (arith, entered.enter_lines-number.auto.0, entered.requires.whole))
+    carried_ready entered.enter_lines-number.ensures c.if-number-ne0.false (omega (arith, entered.enter_lines-number.auto.s, entered.requires.whole))
 
-pub returns-then-number-ne0 : goal.returns
-returns-then-number-ne0 c =
+pub returns : goal.returns
+returns c =
     let closed = c.before.before in
     let accepted = closed.before.before in
     carried_then accepted.enter_lines-number.ensures accepted.if-number-ne0.false closed.close_month.ensures

@@ -13,13 +13,13 @@ pub returns-then-number-ne0 : goal.returns-then-number-ne0
 returns-then-number-ne0 c =
     let called = c.before.before.before in
     let entered = called.loop-i.invariant in
-    entering_stop entered called.enter_line-number.new.0 (search rules) called.enter_line-number.ensures c.if-number-ne0.true
+    entering_stop entered called.enter_line-number.new.s (search rules) called.enter_line-number.ensures c.if-number-ne0.true
 
 pub loop-i-preserved : goal.loop-i-preserved
 loop-i-preserved c =
     let called = c.before.before.before in
     let entered = called.loop-i.invariant in
-    entering_step entered called.enter_line-number.new.0 (search rules) called.enter_line-number.ensures c.if-number-ne0.false (omega (arith, called.enter_line-number.auto.0, entered.ready.whole))
+    entering_step entered called.enter_line-number.new.s (search rules) called.enter_line-number.ensures c.if-number-ne0.false (omega (arith, called.enter_line-number.auto.s, entered.ready.whole))
 
-pub returns-then-number-ne0 : goal.returns
-returns-then-number-ne0 c = entering_done c.loop-i.invariant (search rules)
+pub returns : goal.returns
+returns c = entering_done c.loop-i.invariant (search rules)

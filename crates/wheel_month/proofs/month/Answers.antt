@@ -11,9 +11,9 @@ returns c =
     let entered = c.before.before.before in
     let agreed = entered.before.before.before in
     month_carried
-    agreed.agreement_a.new.0
+    agreed.agreement_a.new.s
     agreed.agreement_a.ensures
     agreed.args.values.now
-    entered.enter_and_close-number.new.0
+    entered.enter_and_close-number.new.s
     entered.enter_and_close-number.ensures
     c.load-after.ensures

@@ -20,5 +20,5 @@ returns-then-record-eq-RECORD_BYTES c =
     let first = second.before.before.before in
     block_on_bytes _ _ first.if-record-eq-RECORD_BYTES.true first.read_input-n.ensures.alike second.read_input-m.ensures.alike called.block_on_inputs.ensures
 
-pub returns-then-record-eq-RECORD_BYTES : goal.returns
-returns-then-record-eq-RECORD_BYTES c = on_other c.if-record-eq-RECORD_BYTES.false
+pub returns : goal.returns
+returns c = on_other c.if-record-eq-RECORD_BYTES.false

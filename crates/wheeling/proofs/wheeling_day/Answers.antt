@@ -4,10 +4,11 @@ use borrow.Author.Rules.{rules}
 use lib.ListN.{length}
 use Rattle.check_meter_bytes.specs.Laws.DayOnBytesLaws.{day_sizes, day_on_bytes, day_misfit}
 use Rattle.wheeling.proofs.wheeling_day.Goals as goal
+use Rattle.wheeling.proofs.wheeling_day.Goals.{After-compare-both, After-read4, After-read4-then-main_list-check_list, Then-main_list-check_list}
 
 -- the three lengths, as they were tested
 sizes :
-    (c : goal.Then-main_list-check_list) → let a = c.args in
+    (c : Then-main_list-check_list) → let a = c.args in
     (length a.main-list.now ≡ 384) × ((length a.check-list.now ≡ 384) × (length a.output-1.now ≡ 16))
 sizes c =
     let a = c.args in
@@ -20,13 +21,13 @@ pub read4-requires-then-main_list-check_list : goal.read4-requires-then-main_lis
 read4-requires-then-main_list-check_list c = (sizes c.before.before.before.before).1.0
 
 -- from the comparison back to both days as they were read, and to the test
-abbrev second : goal.After-compare-both → goal.After-read4-then-main_list-check_list
+abbrev second : After-compare-both → After-read4-then-main_list-check_list
 second c = c.before.before.before.before
 
-abbrev first : goal.After-compare-both → goal.After-read4
+abbrev first : After-compare-both → After-read4
 first c = (second c).before.before.before
 
-abbrev fitting : goal.After-compare-both → goal.Then-main_list-check_list
+abbrev fitting : After-compare-both → Then-main_list-check_list
 fitting c = (first c).before.before
 
 pub give-requires : goal.give-requires
@@ -43,5 +44,5 @@ returns-then-main_list-check_list c =
     count.wide.ensures
     given.give.ensures
 
-pub returns-then-main_list-check_list : goal.returns
-returns-then-main_list-check_list c = day_misfit _ _ _ _ c.if-main_list-check_list.false
+pub returns : goal.returns
+returns c = day_misfit _ _ _ _ c.if-main_list-check_list.false

@@ -14,5 +14,5 @@ write8-requires c = simp length-take (omega (arith, c.requires.1 c.if-refusal-eq
 pub returns-then-refusal-eq0 : goal.returns-then-refusal-eq0
 returns-then-refusal-eq0 c = written_accepted c.if-refusal-eq0.true c.write8.ensures
 
-pub returns-then-refusal-eq0 : goal.returns
-returns-then-refusal-eq0 c = written_refused c.if-refusal-eq0.false
+pub returns : goal.returns
+returns c = written_refused c.if-refusal-eq0.false

@@ -10,5 +10,5 @@ credited-requires c = sym c.takes.ensures ∙ c.if-takes.true
 pub returns-then-takes : goal.returns-then-takes
 returns-then-takes c = c.credited.ensures ∙ sym (credit_within _ _ _ (sym c.takes.ensures ∙ c.if-takes.true))
 
-pub returns-then-takes : goal.returns
-returns-then-takes c = sym (credit_beyond _ _ _ (sym c.takes.ensures ∙ c.if-takes.false))
+pub returns : goal.returns
+returns c = sym (credit_beyond _ _ _ (sym c.takes.ensures ∙ c.if-takes.false))

@@ -6,5 +6,5 @@ use Rattle.bank.proofs.Bank.lapse.Goals as goal
 pub returns-then-due : goal.returns-then-due
 returns-then-due c = lapse_all _ _ (search rules) c.if-due.true
 
-pub returns-then-due : goal.returns
-returns-then-due c = lapse_none _ _ (search rules) c.if-due.false
+pub returns : goal.returns
+returns c = lapse_none _ _ (search rules) c.if-due.false

@@ -17,7 +17,7 @@ loop-g-init c = test_start
 
 pub loop-g-preserved : goal.loop-g-preserved
 loop-g-preserved c =
-    let l = c.loop in
+    let l = c.loop-g in
     test_step l.invariant (search rules) (c.within-ok.ensures ∙ rw (place_in 8 c.args.t1.balance l.g (search rules), place_in 8 _ l.g (search rules)))
 
 pub returns : goal.returns

@@ -5,12 +5,13 @@ use borrow.Author.Rules.{rules}
 use Rattle.record_layout.specs.Laws.Layout.{offpeak_at, normal_at_lem, peak_at_lem}
 use Rattle.record_places.specs.RecordSize.{words_in}
 use Rattle.record_bytes.proofs.loading.load.Goals as goal
+use Rattle.record_bytes.proofs.loading.load.Goals.{After-load_consumers-consumers, After-load_stocks-normal, Start}
 
 -- the last call that reads totals, seen from the last but one that reads a class; where the function started, seen from there
-abbrev totals : goal.After-load_stocks-normal → goal.After-load_consumers-consumers
+abbrev totals : After-load_stocks-normal → After-load_consumers-consumers
 totals c = c.before.before.before
 
-abbrev start : goal.After-load_consumers-consumers → goal.Start
+abbrev start : After-load_consumers-consumers → Start
 start c = c.before.before.before.before.before.before.before.before
 
 pub load_stocks-peak-requires : goal.load_stocks-peak-requires

@@ -5,39 +5,40 @@ use Rattle.record.proofs.Owned.{shaped}
 use Rattle.record_layout.specs.Laws.Layout.{laid_then, laid_all, words_parts}
 use Rattle.record_layout.specs.Laws.LayoutLaws.{read_back}
 use Rattle.record_bytes.proofs.storing.store.Goals as goal
+use Rattle.record_bytes.proofs.storing.store.Goals.{After-store_agreed, After-store_consumers, After-store_counts, After-store_generators, After-store_links, After-store_schedule, After-store_stocks, After-store_stocks-2, After-store_stocks-3, After-store_switch, After-store_terms, Start}
 
 -- the call that stored a part, seen from the one that stored the next; where the function started, seen from the last
-abbrev terms : goal.After-store_counts → goal.After-store_terms
+abbrev terms : After-store_counts → After-store_terms
 terms c = c.before.before.before.before
 
-abbrev counts : goal.After-store_agreed → goal.After-store_counts
+abbrev counts : After-store_agreed → After-store_counts
 counts c = c.before.before.before.before
 
-abbrev agreed : goal.After-store_links → goal.After-store_agreed
+abbrev agreed : After-store_links → After-store_agreed
 agreed c = c.before.before.before.before
 
-abbrev links : goal.After-store_schedule → goal.After-store_links
+abbrev links : After-store_schedule → After-store_links
 links c = c.before.before.before.before
 
-abbrev schedule : goal.After-store_generators → goal.After-store_schedule
+abbrev schedule : After-store_generators → After-store_schedule
 schedule c = c.before.before.before.before
 
-abbrev generators : goal.After-store_consumers → goal.After-store_generators
+abbrev generators : After-store_consumers → After-store_generators
 generators c = c.before.before.before.before
 
-abbrev consumers : goal.After-store_switch → goal.After-store_consumers
+abbrev consumers : After-store_switch → After-store_consumers
 consumers c = c.before.before.before.before
 
-abbrev switch : goal.After-store_stocks → goal.After-store_switch
+abbrev switch : After-store_stocks → After-store_switch
 switch c = c.before.before.before.before
 
-abbrev offpeak : goal.After-store_stocks-2 → goal.After-store_stocks
+abbrev offpeak : After-store_stocks-2 → After-store_stocks
 offpeak c = c.before.before.before.before
 
-abbrev normal : goal.After-store_stocks-3 → goal.After-store_stocks-2
+abbrev normal : After-store_stocks-3 → After-store_stocks-2
 normal c = c.before.before.before.before
 
-abbrev start : goal.After-store_stocks-3 → goal.Start
+abbrev start : After-store_stocks-3 → Start
 start c = (terms (counts (agreed (links (schedule (generators (consumers (switch (offpeak (normal c)))))))))).before.before.before
 
 pub shape_of-s : goal.shape_of-s

@@ -4,24 +4,25 @@ use borrow.Author.Rules.{rules}
 use Rattle.lists.specs.Pairs.{joined}
 use Rattle.record_layout.specs.Laws.Layout.{laid_run, laid_then, laid_last}
 use Rattle.record_bytes.proofs.storing.store_consumers.Goals as goal
+use Rattle.record_bytes.proofs.storing.store_consumers.Goals.{After-store_run, After-store_run-2, After-store_run-3, After-store_run-4, After-store_run-5, After-store_run-6, Start}
 
 -- the call that stored a list, seen from the one that stored the next; where the function started, seen from the last
-abbrev one : goal.After-store_run-2 → goal.After-store_run
+abbrev one : After-store_run-2 → After-store_run
 one c = c.before.before.before.before.before.before.before
 
-abbrev two : goal.After-store_run-3 → goal.After-store_run-2
+abbrev two : After-store_run-3 → After-store_run-2
 two c = c.before.before.before.before.before.before.before
 
-abbrev three : goal.After-store_run-4 → goal.After-store_run-3
+abbrev three : After-store_run-4 → After-store_run-3
 three c = c.before.before.before.before.before.before.before
 
-abbrev four : goal.After-store_run-5 → goal.After-store_run-4
+abbrev four : After-store_run-5 → After-store_run-4
 four c = c.before.before.before.before.before.before.before
 
-abbrev five : goal.After-store_run-6 → goal.After-store_run-5
+abbrev five : After-store_run-6 → After-store_run-5
 five c = c.before.before.before.before.before.before.before
 
-abbrev start : goal.After-store_run-6 → goal.Start
+abbrev start : After-store_run-6 → Start
 start c = (one (two (three (four (five c))))).before.before.before.before.before.before
 
 pub shape_of-s : goal.shape_of-s

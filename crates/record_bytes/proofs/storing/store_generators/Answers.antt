@@ -4,36 +4,37 @@ use borrow.Author.Rules.{rules}
 use Rattle.lists.specs.Pairs.{joined}
 use Rattle.record_layout.specs.Laws.Layout.{laid_run, laid_then, laid_last}
 use Rattle.record_bytes.proofs.storing.store_generators.Goals as goal
+use Rattle.record_bytes.proofs.storing.store_generators.Goals.{After-store_run, After-store_run-10, After-store_run-2, After-store_run-3, After-store_run-4, After-store_run-5, After-store_run-6, After-store_run-7, After-store_run-8, After-store_run-9, Start}
 
 -- the call that stored a list, seen from the one that stored the next; where the function started, seen from the last
-abbrev one : goal.After-store_run-2 → goal.After-store_run
+abbrev one : After-store_run-2 → After-store_run
 one c = c.before.before.before.before.before.before.before
 
-abbrev two : goal.After-store_run-3 → goal.After-store_run-2
+abbrev two : After-store_run-3 → After-store_run-2
 two c = c.before.before.before.before.before.before.before
 
-abbrev three : goal.After-store_run-4 → goal.After-store_run-3
+abbrev three : After-store_run-4 → After-store_run-3
 three c = c.before.before.before.before.before.before.before
 
-abbrev four : goal.After-store_run-5 → goal.After-store_run-4
+abbrev four : After-store_run-5 → After-store_run-4
 four c = c.before.before.before.before.before.before.before
 
-abbrev five : goal.After-store_run-6 → goal.After-store_run-5
+abbrev five : After-store_run-6 → After-store_run-5
 five c = c.before.before.before.before.before.before.before
 
-abbrev six : goal.After-store_run-7 → goal.After-store_run-6
+abbrev six : After-store_run-7 → After-store_run-6
 six c = c.before.before.before.before.before.before.before
 
-abbrev seven : goal.After-store_run-8 → goal.After-store_run-7
+abbrev seven : After-store_run-8 → After-store_run-7
 seven c = c.before.before.before.before.before.before.before
 
-abbrev eight : goal.After-store_run-9 → goal.After-store_run-8
+abbrev eight : After-store_run-9 → After-store_run-8
 eight c = c.before.before.before.before.before.before.before
 
-abbrev nine : goal.After-store_run-10 → goal.After-store_run-9
+abbrev nine : After-store_run-10 → After-store_run-9
 nine c = c.before.before.before.before.before.before.before
 
-abbrev start : goal.After-store_run-10 → goal.Start
+abbrev start : After-store_run-10 → Start
 start c = (one (two (three (four (five (six (seven (eight (nine c))))))))).before.before.before.before.before.before
 
 pub shape_of-s : goal.shape_of-s
