@@ -7,19 +7,17 @@ use Rattle.record.specs.Sound.{sound}
 use Rattle.block_rules.specs.Laws.BlockRefusals.{record_refusal}
 use Rattle.record_layout.specs.OnBytes.{book_in}
 use Rattle.block.proofs.refusal_on.Goals as goal
-use Rattle.block.proofs.refusal_on.Goals.{Then-is_sound}
-
-passed : (c : Then-is_sound) → sound (book_in c.args.s.now) ≡ true
-passed c = sym c.is_sound.ensures ∙ c.if-is_sound.true
 
 pub refusal-requires : goal.refusal-requires
-refusal-requires c = terms_few _ c.requires.terms_are (passed c)
+refusal-requires c =
+    let passed : sound (book_in c.args.s.now) ≡ true = sym c.is_sound.ensures ∙ c.if-is_sound.true in
+    terms_few _ c.requires.terms_are passed
 
 pub returns-then-is_sound : goal.returns-then-is_sound
 returns-then-is_sound c =
-    let start = c.before.before.before.before.before.before in
-    let head = start.requires in
-    c.refusal.ensures ∙ record_refusal _ _ _ _ head.terms_are head.counts_are (passed c.before)
+    let passed : sound (book_in c.args.s.now) ≡ true = sym c.is_sound.ensures ∙ c.if-is_sound.true in
+    let head = c.requires in
+    c.refusal.ensures ∙ record_refusal _ _ _ _ head.terms_are head.counts_are passed
 
 pub returns-else-is_sound : goal.returns-else-is_sound
 returns-else-is_sound c = sym (number_unsound _ _ (sym c.is_sound.ensures ∙ c.if-is_sound.false))

@@ -6,25 +6,27 @@ use lib.ListN.{length}
 use Rattle.output_lists.specs.Laws.RowsWritten.{WritingRows, rows_start, rows_put, rows_length, rows_done, row_room}
 use Rattle.block_delivery.specs.Laws.DeliveryRows.{figure}
 use Rattle.block_delivery.proofs.fill_delivered.Goals as goal
-use Rattle.block_delivery.proofs.fill_delivered.Goals.{In-loop-g}
-
-room : (c : In-loop-g) → let l = c.loop-g in let m = c.args.m in (l.at + m ≤ 128) × (l.at + m ≤ length l.out)
-room c = row_room c.loop-g.invariant (search rules) (search rules) (search rules)
 
 pub loop-g-preserved : goal.loop-g-preserved
-loop-g-preserved c = let r = c.before.before in rows_put r.loop-g.invariant (search rules) r.delivered_row.ensures
+loop-g-preserved c = rows_put c.loop-g.invariant (search rules) c.delivered_row.ensures
 
 pub loop-g-init : goal.loop-g-init
 loop-g-init c = rows_start (search rules)
 
 pub overflow_add-end : goal.overflow_add-end
-overflow_add-end c = omega (arith, room c)
+overflow_add-end c =
+    let room : let l = c.loop-g in let m = c.args.m in (l.at + m ≤ 128) × (l.at + m ≤ length l.out) = row_room c.loop-g.invariant (search rules) (search rules) (search rules) in
+    omega (arith, room)
 
 pub offset_bounds-out-at : goal.offset_bounds-out-at
-offset_bounds-out-at c = omega (arith, room c.before)
+offset_bounds-out-at c =
+    let room : let l = c.loop-g in let m = c.args.m in (l.at + m ≤ 128) × (l.at + m ≤ length l.out) = row_room c.loop-g.invariant (search rules) (search rules) (search rules) in
+    omega (arith, room)
 
 pub slice_bounds-delivered_row-end : goal.slice_bounds-delivered_row-end
-slice_bounds-delivered_row-end c = omega (arith, room c.before)
+slice_bounds-delivered_row-end c =
+    let room : let l = c.loop-g in let m = c.args.m in (l.at + m ≤ 128) × (l.at + m ≤ length l.out) = row_room c.loop-g.invariant (search rules) (search rules) (search rules) in
+    omega (arith, room)
 
 pub shape_of-out : goal.shape_of-out
 shape_of-out c = rows_length c.loop-g.invariant

@@ -7,31 +7,32 @@ use Rattle.output_lists.specs.Laws.RowsWritten.{WritingRows, rows_start, rows_pu
 use Rattle.record_layout.specs.OnBytes.{plan_in}
 use Rattle.block_delivery.specs.Laws.DeliveryRows.{figure, gap_at}
 use Rattle.block_delivery.proofs.fill_gap.Goals as goal
-use Rattle.block_delivery.proofs.fill_gap.Goals.{In-loop-g}
-
-room : (c : In-loop-g) → let l = c.loop-g in let m = c.args.m in (l.at + m ≤ 128) × (l.at + m ≤ length l.out)
-room c = row_room c.loop-g.invariant (search rules) (search rules) (search rules)
 
 pub gap_row-requires : goal.gap_row-requires
 gap_row-requires c =
-    let i = c.before.before in
-    let p = i.requires in
-    (p.0, (search rules, (λ j l. p.1.1.0 i.loop-g.g j (search rules) l, search rules)))
+    let p = c.requires in
+    (p.0, (search rules, (λ j l. p.1.1.0 c.loop-g.g j (search rules) l, search rules)))
 
 pub loop-g-preserved : goal.loop-g-preserved
-loop-g-preserved c = let r = c.before.before in rows_put r.loop-g.invariant (search rules) r.gap_row.ensures
+loop-g-preserved c = rows_put c.loop-g.invariant (search rules) c.gap_row.ensures
 
 pub loop-g-init : goal.loop-g-init
 loop-g-init c = rows_start (search rules)
 
 pub overflow_add-end : goal.overflow_add-end
-overflow_add-end c = omega (arith, room c)
+overflow_add-end c =
+    let room : let l = c.loop-g in let m = c.args.m in (l.at + m ≤ 128) × (l.at + m ≤ length l.out) = row_room c.loop-g.invariant (search rules) (search rules) (search rules) in
+    omega (arith, room)
 
 pub offset_bounds-out-at : goal.offset_bounds-out-at
-offset_bounds-out-at c = omega (arith, room c.before)
+offset_bounds-out-at c =
+    let room : let l = c.loop-g in let m = c.args.m in (l.at + m ≤ 128) × (l.at + m ≤ length l.out) = row_room c.loop-g.invariant (search rules) (search rules) (search rules) in
+    omega (arith, room)
 
 pub slice_bounds-gap_row-end : goal.slice_bounds-gap_row-end
-slice_bounds-gap_row-end c = omega (arith, room c.before)
+slice_bounds-gap_row-end c =
+    let room : let l = c.loop-g in let m = c.args.m in (l.at + m ≤ 128) × (l.at + m ≤ length l.out) = row_room c.loop-g.invariant (search rules) (search rules) (search rules) in
+    omega (arith, room)
 
 pub shape_of-out : goal.shape_of-out
 shape_of-out c = rows_length c.loop-g.invariant

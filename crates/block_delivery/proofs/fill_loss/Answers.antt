@@ -11,35 +11,18 @@ use Rattle.energy.specs.Energy.{loss_on, after_loss}
 use Rattle.record_layout.specs.OnBytes.{plan_in}
 use Rattle.block_delivery.specs.Laws.DeliveryRows.{figure}
 use Rattle.block_delivery.proofs.fill_loss.Goals as goal
-use Rattle.block_delivery.proofs.fill_loss.Goals.{In-loop-g, Start}
-
--- in the loop: where the function started, and the row, which is as it was lent
-abbrev In : Type 0
-In = In-loop-g
-
-abbrev start : In → Start
-start i = i.before.before.before.before
-
-row_here : (i : In) → get_or i.loop-g.parts i.loop-g.g [] ≡ get_or (start i).args.parts.now i.loop-g.g []
-row_here i =
-    let l = i.loop-g in
-    ap (λ (rows : List (List ℕ)). get_or rows l.g []) l.invariant.1.is ∙ filled_later (start i).args.parts.now l.g _ l.g [] (omega arith)
-
-room : (i : In) → let l = i.loop-g in let m = (start i).args.m in (l.at + m ≤ 128) × (l.at + m ≤ length l.out)
-room i = row_room i.loop-g.invariant.0 (search rules) (search rules) (search rules)
 
 pub loss_row-requires : goal.loss_row-requires
 loss_row-requires c =
-    let i = c.before.before in
-    let p = (start i).requires in
-    (p.0, (search rules, (rw (row_here i) (p.1.1.0.row_size i.loop-g.g (search rules)), search rules)))
+    let row_here : get_or c.loop-g.parts c.loop-g.g [] ≡ get_or c.args.parts.now c.loop-g.g [] = let l = c.loop-g in ap (λ (rows : List (List ℕ)). get_or rows l.g []) l.invariant.1.is ∙ filled_later c.args.parts.now l.g _ l.g [] (omega arith) in
+    let p = c.requires in
+    (p.0, (search rules, (rw row_here (p.1.1.0.row_size c.loop-g.g (search rules)), search rules)))
 
 pub loop-g-preserved : goal.loop-g-preserved
 loop-g-preserved c =
-    let r = c.before.before in
-    let i = r.before.before.before in
-    let v = i.loop-g.invariant in
-    (rows_put v.0 (search rules) (rw (row_here i) at r.loss_row.ensures.0), fill_step v.1 (search rules) (rw (row_here i) at r.loss_row.ensures.1))
+    let row_here : get_or c.loop-g.parts c.loop-g.g [] ≡ get_or c.args.parts.now c.loop-g.g [] = let l = c.loop-g in ap (λ (rows : List (List ℕ)). get_or rows l.g []) l.invariant.1.is ∙ filled_later c.args.parts.now l.g _ l.g [] (omega arith) in
+    let v = c.loop-g.invariant in
+    (rows_put v.0 (search rules) (rw row_here at c.loss_row.ensures.0), fill_step v.1 (search rules) (rw row_here at c.loss_row.ensures.1))
 
 pub returns : goal.returns
 returns c =
@@ -50,13 +33,19 @@ pub loop-g-init : goal.loop-g-init
 loop-g-init c = (rows_start (search rules), fill_start (search rules))
 
 pub overflow_add-end : goal.overflow_add-end
-overflow_add-end c = omega (arith, room c)
+overflow_add-end c =
+    let room : let l = c.loop-g in let m = c.args.m in (l.at + m ≤ 128) × (l.at + m ≤ length l.out) = row_room c.loop-g.invariant.0 (search rules) (search rules) (search rules) in
+    omega (arith, room)
 
 pub offset_bounds-out-at : goal.offset_bounds-out-at
-offset_bounds-out-at c = omega (arith, room c.before)
+offset_bounds-out-at c =
+    let room : let l = c.loop-g in let m = c.args.m in (l.at + m ≤ 128) × (l.at + m ≤ length l.out) = row_room c.loop-g.invariant.0 (search rules) (search rules) (search rules) in
+    omega (arith, room)
 
 pub slice_bounds-loss_row-end : goal.slice_bounds-loss_row-end
-slice_bounds-loss_row-end c = omega (arith, room c.before)
+slice_bounds-loss_row-end c =
+    let room : let l = c.loop-g in let m = c.args.m in (l.at + m ≤ 128) × (l.at + m ≤ length l.out) = row_room c.loop-g.invariant.0 (search rules) (search rules) (search rules) in
+    omega (arith, room)
 
 pub shape_of-out : goal.shape_of-out
 shape_of-out c = rows_length c.loop-g.invariant.0

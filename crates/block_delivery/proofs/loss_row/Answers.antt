@@ -10,46 +10,19 @@ use Rattle.energy.specs.Laws.EnergyLaws.{loss_le}
 use Rattle.energy.specs.Limits.{most_loss}
 use Rattle.record_layout.specs.OnBytes.{plan_in}
 use Rattle.block_delivery.proofs.loss_row.Goals as goal
-use Rattle.block_delivery.proofs.loss_row.Goals.{After-loss-less, After-lossy_at-lossy, In-loop-c, Start}
-
--- in the loop: where the function started, the pair's part and its rate
-abbrev In : Type 0
-In = In-loop-c
-
-abbrev start : In → Start
-start i = i.before.before.before.before
-
-abbrev part : In → ℕ
-part i = get_or (start i).args.parts.now i.loop-c.c 0
-
-abbrev rate : In → ℕ
-rate i = (plan_in (start i).args.s.now).loss (start i).args.g i.loop-c.c
-
-part_here : (i : In) → get_or i.loop-c.parts i.loop-c.c 0 ≡ part i
-part_here i = fill_here i.loop-c.invariant.1
-
-rate_high : (i : In) → rate i ≤ most_loss
-rate_high i = (start i).requires.0.loss_high (start i).args.g i.loop-c.c
-
--- the loss is the pair's, and within its part
-taken : (k : After-lossy_at-lossy) → let i = k.before.before in (k.lossy_at-lossy.result.energy.0 ≡ part i) × (k.lossy_at-lossy.result.rate ≡ rate i)
-taken k = let i = k.before.before in (omega (arith, part_here i), omega arith)
-
-less_is : (k : After-loss-less) → let i = k.before.before.before in k.loss-less.result.0 ≡ loss_on (part i) (rate i)
-less_is k = let t = taken k.before in k.loss-less.ensures ∙ rw (t.0, t.1)
-
-less_low : (k : After-loss-less) → k.loss-less.result.0 ≤ part k.before.before.before
-less_low k = let i = k.before.before.before in omega (arith, less_is k, loss_le (part i) (rate i) (omega (arith, rate_high i)))
 
 pub lossy_at-lossy-requires : goal.lossy_at-lossy-requires
-lossy_at-lossy-requires c = (search rules, (search rules, (search rules, (start c.before).requires.0.loss_high)))
+lossy_at-lossy-requires c = (search rules, (search rules, (search rules, c.requires.0.loss_high)))
 
 pub loop-c-preserved : goal.loop-c-preserved
 loop-c-preserved c =
-    let k = c.before.before in
-    let i = k.before.before.before in
-    let v = i.loop-c.invariant in
-    (fill_step v.0 (search rules) (c.wide.ensures ∙ less_is k), fill_step v.1 (omega arith) (rw (part_here i, less_is k)))
+    let part : ℕ = get_or c.args.parts.now c.loop-c.c 0 in
+    let part_here : get_or c.loop-c.parts c.loop-c.c 0 ≡ part = fill_here c.loop-c.invariant.1 in
+    let rate : ℕ = (plan_in c.args.s.now).loss c.args.g c.loop-c.c in
+    let taken : (c.lossy_at-lossy.result.energy.0 ≡ part) × (c.lossy_at-lossy.result.rate ≡ rate) = (omega (arith, part_here), omega arith) in
+    let less_is : c.loss-less.result.0 ≡ loss_on part rate = let t = taken in c.loss-less.ensures ∙ rw (t.0, t.1) in
+    let v = c.loop-c.invariant in
+    (fill_step v.0 (search rules) (c.wide.ensures ∙ less_is), fill_step v.1 (omega arith) (rw (part_here, less_is)))
 
 pub returns : goal.returns
 returns c =
@@ -61,10 +34,24 @@ pub loop-c-init : goal.loop-c-init
 loop-c-init c = (fill_start (search rules), fill_start (search rules))
 
 pub loss-less-requires : goal.loss-less-requires
-loss-less-requires c = omega (arith, taken c, rate_high c.before.before)
+loss-less-requires c =
+    let rate : ℕ = (plan_in c.args.s.now).loss c.args.g c.loop-c.c in
+    let rate_high : rate ≤ most_loss = c.requires.0.loss_high c.args.g c.loop-c.c in
+    let part : ℕ = get_or c.args.parts.now c.loop-c.c 0 in
+    let part_here : get_or c.loop-c.parts c.loop-c.c 0 ≡ part = fill_here c.loop-c.invariant.1 in
+    let taken : (c.lossy_at-lossy.result.energy.0 ≡ part) × (c.lossy_at-lossy.result.rate ≡ rate) = (omega (arith, part_here), omega arith) in
+    omega (arith, taken, rate_high)
 
 pub overflow_sub-parts : goal.overflow_sub-parts
-overflow_sub-parts c = omega (arith, less_low c.before, part_here c.before.before.before.before)
+overflow_sub-parts c =
+    let part : ℕ = get_or c.args.parts.now c.loop-c.c 0 in
+    let part_here : get_or c.loop-c.parts c.loop-c.c 0 ≡ part = fill_here c.loop-c.invariant.1 in
+    let rate : ℕ = (plan_in c.args.s.now).loss c.args.g c.loop-c.c in
+    let rate_high : rate ≤ most_loss = c.requires.0.loss_high c.args.g c.loop-c.c in
+    let taken : (c.lossy_at-lossy.result.energy.0 ≡ part) × (c.lossy_at-lossy.result.rate ≡ rate) = (omega (arith, part_here), omega arith) in
+    let less_is : c.loss-less.result.0 ≡ loss_on part rate = let t = taken in c.loss-less.ensures ∙ rw (t.0, t.1) in
+    let less_low : c.loss-less.result.0 ≤ part = omega (arith, less_is, loss_le part rate (omega (arith, rate_high))) in
+    omega (arith, less_low, part_here)
 
 pub bounds-out-c : goal.bounds-out-c
 bounds-out-c c = omega (arith, fill_length c.loop-c.invariant.0)

@@ -5,13 +5,13 @@ use borrow.Author.Rules.{rules}
 use Rattle.record_layout.specs.OnBytes.{plan_in}
 use Rattle.record_layout.specs.Laws.PairPlaces.{loss_at_lem}
 use Rattle.block_delivery.proofs.rate_at.Goals as goal
-use Rattle.block_delivery.proofs.rate_at.Goals.{After-number_at}
-
-read : (c : After-number_at) → c.number_at.result ≡ (plan_in c.args.s.now).loss c.args.g c.args.c
-read c = let s = c.before.before in c.number_at.ensures ∙ sym (loss_at_lem s.args.s.now s.args.g s.args.c (search rules) (search rules))
 
 pub overflow_cast-result : goal.overflow_cast-result
-overflow_cast-result c = let s = c.before.before in omega (arith, read c, s.requires.1.1.1 s.args.g s.args.c)
+overflow_cast-result c =
+    let read : c.number_at.result ≡ (plan_in c.args.s.now).loss c.args.g c.args.c = c.number_at.ensures ∙ sym (loss_at_lem c.args.s.now c.args.g c.args.c (search rules) (search rules)) in
+    omega (arith, read, c.requires.1.1.1 c.args.g c.args.c)
 
 pub returns : goal.returns
-returns c = read c
+returns c =
+    let read : c.number_at.result ≡ (plan_in c.args.s.now).loss c.args.g c.args.c = c.number_at.ensures ∙ sym (loss_at_lem c.args.s.now c.args.g c.args.c (search rules) (search rules)) in
+    read

@@ -15,9 +15,9 @@ use Rattle.block_figures.proofs.scheduled_kw.Goals.{In-loop-c}
 -- the sum with consumer c, as the code has it
 sum_next :
     (c : In-loop-c) →
-    c.loop-c.sum + get_or c.args.t1 c.loop-c.c 0 ≡ sum (c.loop-c.c + 1) (place 16 c.args.t1)
+    c.loop-c.sum + get_or c.args.row c.loop-c.c 0 ≡ sum (c.loop-c.c + 1) (place 16 c.args.row)
 sum_next c =
-    let row = c.args.t1 in
+    let row = c.args.row in
     let i = c.loop-c.c in
     omega (arith, sum_more i (place 16 row), place_in 16 row i (omega arith))
 
@@ -25,7 +25,7 @@ pub loop-c-init : goal.loop-c-init
 loop-c-init c = (search rules, sym (sum_none _))
 
 pub overflow_add-sum : goal.overflow_add-sum
-overflow_add-sum c = omega (arith, sum_next c, sum_to (c.loop-c.c + 1) 16 (place 16 c.args.t1) (omega arith))
+overflow_add-sum c = omega (arith, sum_next c, sum_to (c.loop-c.c + 1) 16 (place 16 c.args.row) (omega arith))
 
 pub loop-c-preserved : goal.loop-c-preserved
 loop-c-preserved c = (search rules, sum_next c)
@@ -33,4 +33,4 @@ loop-c-preserved c = (search rules, sum_next c)
 pub returns : goal.returns
 returns c =
     let l = c.before in
-    l.loop-c.invariant.1 ∙ ap (λ (k : ℕ). sum k (place 16 l.args.t1)) (omega arith)
+    l.loop-c.invariant.1 ∙ ap (λ (k : ℕ). sum k (place 16 l.args.row)) (omega arith)

@@ -49,4 +49,4 @@ returns c =
     let after-raise-readings = after-raise-columns.before.before.before.before in
     let start = after-raise-readings.before.before.before.before.before in
     let a = start.args in
-    consumers_all a.n a.m a.exit.now a.out.now a.s-1.now after-raise-readings.raise_readings.ensures after-raise-columns.raise_columns.ensures after-raise-columns2.raise_columns-2.ensures c.raise_numbers.ensures
+    consumers_all a.n a.m a.exit.now a.out.now a.s.now after-raise-readings.raise_readings.ensures after-raise-columns.raise_columns.ensures after-raise-columns2.raise_columns-2.ensures c.raise_numbers.ensures

@@ -83,4 +83,4 @@ returns c =
     let after-raise-readings = after-raise-numbers.before.before.before.before in
     let start = after-raise-readings.before.before.before.before.before in
     let a = start.args in
-    generators_all a.n a.m a.entry.now a.out.now a.s-1.now after-raise-readings.raise_readings.ensures after-raise-numbers.raise_numbers.ensures after-raise-rows.raise_rows.ensures after-raise-rows2.raise_rows-2.ensures after-raise-by-kind.raise_by_kind.ensures c.raise_by_kind-2.ensures
+    generators_all a.n a.m a.entry.now a.out.now a.s.now after-raise-readings.raise_readings.ensures after-raise-numbers.raise_numbers.ensures after-raise-rows.raise_rows.ensures after-raise-rows2.raise_rows-2.ensures after-raise-by-kind.raise_by_kind.ensures c.raise_by_kind-2.ensures

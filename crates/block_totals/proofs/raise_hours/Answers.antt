@@ -6,35 +6,25 @@ use Rattle.block_rules.specs.Laws.BlockClasses.{class_few}
 use Rattle.block_totals.specs.Laws.BlockTotalsLaws.{among, class_raised_lem, no_class_raised}
 use Rattle.record_places.specs.RecordSize.{words_in}
 use Rattle.block_totals.proofs.raise_hours.Goals as goal
-use Rattle.block_totals.proofs.raise_hours.Goals.{After-apply, Start}
-
--- where the function started, seen from its first test
-abbrev start : After-apply → Start
-start c = let closings = c.before.before in let switch = closings.before.before in switch.before.before.before
 
 pub overflow_mul-start : goal.overflow_mul-start
-overflow_mul-start c = omega (arith, c.class_after.ensures, class_few (slot_after (start c.before.before).args.month))
+overflow_mul-start c = omega (arith, c.class_after.ensures, class_few (slot_after c.args.month))
 
 pub overflow_add-start : goal.overflow_add-start
-overflow_add-start c = omega (arith, c.class_after.ensures, class_few (slot_after (start c.before.before).args.month))
+overflow_add-start c = omega (arith, c.class_after.ensures, class_few (slot_after c.args.month))
 
 pub raise_class-requires : goal.raise_class-requires
 raise_class-requires c =
-    let class = c.before in
-    let pre = (start class.before.before).requires in
-    let few = class_few (slot_after (start class.before.before).args.month) in
-    (among _ _ (omega arith) (omega (arith, class.class_after.ensures, few)) pre.0, (omega arith, pre.1))
+    let pre = c.requires in
+    let few = class_few (slot_after c.args.month) in
+    (among _ _ (omega arith) (omega (arith, c.class_after.ensures, few)) pre.0, (omega arith, pre.1))
 
 pub returns-then-apply : goal.returns-then-apply
 returns-then-apply c =
-    let raised = c.before.before in
-    let class = raised.before.before in
-    let test = class.before.before in
-    let a = (start test).args in
-    class_raised_lem a.n a.m a.out.now (words_in a.s-1.now) a.month test.number_at-switch.ensures test.number_at-closings.ensures test.apply.ensures class.if-apply.true class.class_after.ensures raised.raise_class.ensures
+    let a = c.args in
+    class_raised_lem a.n a.m a.out.now (words_in a.s.now) a.month c.number_at-switch.ensures c.number_at-closings.ensures c.apply.ensures c.if-apply.true c.class_after.ensures c.raise_class.ensures
 
 pub returns-else-apply : goal.returns-else-apply
 returns-else-apply c =
-    let test = c.before in
-    let a = (start test).args in
-    no_class_raised a.n a.m a.out.now (words_in a.s-1.now) a.month test.number_at-switch.ensures test.number_at-closings.ensures test.apply.ensures c.if-apply.false
+    let a = c.args in
+    no_class_raised a.n a.m a.out.now (words_in a.s.now) a.month c.number_at-switch.ensures c.number_at-closings.ensures c.apply.ensures c.if-apply.false

@@ -68,8 +68,8 @@ module _ (b : Book) where
   turn_drawn c left gs want' e p w q =
       let same : (k : ℕ) → k < classes → sources_of k gs ≡ serving b (turn c k) = λ k l. ap (sources_of k) p ∙ sym (serving_at b c k l) in
       let wanted : (k : ℕ) → k < classes → place classes want' k ≡ want b (turn c k) = λ k l. place_in classes want' k l ∙ w k l ∙ sym (want_at b c k l) in
-      let on = Turns.stock-shift (serving b) (λ k. sources_of k gs) (stock b) (want b) (place classes want') (c * classes) classes same wanted in
-      let lack = Turns.missing-shift (serving b) (λ k. sources_of k gs) (stock b) (want b) (place classes want') (c * classes) classes same wanted in
+      let on = Turns.stock_shift (serving b) (λ k. sources_of k gs) (stock b) (want b) (place classes want') (c * classes) classes same wanted in
+      let lack = Turns.missing_shift (serving b) (λ k. sources_of k gs) (stock b) (want b) (place classes want') (c * classes) classes same wanted in
       let next : c * classes + classes ≡ (c + 1) * classes = omega arith in
       record {
         size = ap (λ (x : ClassDraw). length x.bank.balance) q ∙ length_table 24 _;
@@ -90,13 +90,13 @@ module _ (b : Book) where
         sym (place_in 24 ys s l) ∙ ap (λ (h : ℕ → ℕ). h s) e' ∙ ap (λ (t : ℕ). stock_at (serving b) (stock b) (want b) t s) next
 
     lower : (s : ℕ) → s < 24 → get_or ys s 0 ≤ get_or xs s 0
-    lower s l = omega (arith, before s l, after s l, Turns.span-drawn (serving b) (stock b) (want b) classes (c * classes) s)
+    lower s l = omega (arith, before s l, after s l, Turns.span_drawn (serving b) (stock b) (want b) classes (c * classes) s)
 
     held : (g : ℕ) → g < n → get_or xs (g * 3) 0 + get_or xs (g * 3 + 1) 0 + get_or xs (g * 3 + 2) 0 ≤ most_figure
     unfolding sum
     held g l =
         let most : (k : ℕ) → k < classes → get_or xs (source g k) 0 ≤ credited b k g = λ k h.
-        omega (arith, before (source g k) (omega arith), Turns.stock-most (serving b) (stock b) (want b) (source g k) (c * classes), stock_at_lem b g k h) in
+        omega (arith, before (source g k) (omega arith), Turns.stock_most (serving b) (stock b) (want b) (source g k) (c * classes), stock_at_lem b g k h) in
         let first : g * 3 + 0 ≡ g * 3 = omega arith in
         omega (
           arith,

@@ -116,7 +116,7 @@ module _ (b : Book) where
       omega (
         arith,
         sum_rows b.plan.C classes (drawn_at (serving b) (stock b) (want b) (source g j)),
-        Turns.all-drawn (serving b) (stock b) (want b) (b.plan.C * classes) (source g j),
+        Turns.all_drawn (serving b) (stock b) (want b) (b.plan.C * classes) (source g j),
         stock_at_lem g j l,
       )
 
@@ -135,7 +135,7 @@ module _ (b : Book) where
   -- what class j of generator g loses to consumer c's three classes is what that draws on it
   pub consumer_drawn : (g j c : ℕ) → sum classes (λ k. drawn_of b g j c k) + stock_at (serving b) (stock b) (want b) (turn c classes) (source g j) ≡ stock_at (serving b) (stock b) (want b) (c * classes) (source g j)
   unfolding drawn_of
-  consumer_drawn g j c = Turns.span-drawn (serving b) (stock b) (want b) classes (c * classes) (source g j)
+  consumer_drawn g j c = Turns.span_drawn (serving b) (stock b) (want b) classes (c * classes) (source g j)
 
   -- no consumer draws more on a generator than step 1 leaves it
   drawn_most : (g c : ℕ) → drawn b g c ≤ sum classes (λ k. credited b k g)
@@ -143,7 +143,7 @@ module _ (b : Book) where
   drawn_most g c = omega (arith, most 0 (omega arith), most 1 (omega arith), most 2 (omega arith))
     where
       most : (j : ℕ) → j < classes → sum classes (λ k. drawn_of b g j c k) ≤ credited b j g
-      most j l = omega (arith, consumer_drawn g j c, Turns.stock-most (serving b) (stock b) (want b) (source g j) (c * classes), stock_at_lem g j l)
+      most j l = omega (arith, consumer_drawn g j c, Turns.stock_most (serving b) (stock b) (want b) (source g j) (c * classes), stock_at_lem g j l)
 
   -- bank before the lapse is what the output's lapsed and bank add up to
   pub before_lapse_is : (g : ℕ) → lapsed b g + bank_after b g ≡ bank_before_lapse b g
@@ -174,7 +174,7 @@ module _ (b : Book) where
       omega (
         arith,
         sum_rows b.plan.G classes (λ s. drawn_at (serving b) (stock b) (want b) s (turn c k)),
-        Turns.turn-split (serving b) (stock b) (want b) n (turn c k) below,
+        Turns.turn_split (serving b) (stock b) (want b) n (turn c k) below,
         want_at c k l,
       )
 
@@ -246,11 +246,11 @@ module _ (b : Book) where
 
     pub left_none : (g k : ℕ) → k < peak → bank_left b k g ≡ 0
     unfolding bank_left
-    left_none g k l = omega (arith, Turns.stock-most (serving b) (stock b) (want b) (source g k) (b.plan.C * classes), stock_below g k l)
+    left_none g k l = omega (arith, Turns.stock_most (serving b) (stock b) (want b) (source g k) (b.plan.C * classes), stock_below g k l)
 
     pub supplied_none : (c k : ℕ) → k < peak → supplied_of b k c ≡ 0
     unfolding supplied_of
-    supplied_none c k l = omega (arith, Turns.missing-le (serving b) (stock b) (want b) (turn c k), want_below c k l)
+    supplied_none c k l = omega (arith, Turns.missing_le (serving b) (stock b) (want b) (turn c k), want_below c k l)
 
     -- no linked pair's generator still has bank before the lapse while its consumer has energy supplied
     pub none_idle : (g c : ℕ) → g < b.plan.G → c < b.plan.C → b.plan.link g c ≡ 1 → (bank_before_lapse b g ≡ 0) ⊎ (supplied b c ≡ 0)

@@ -54,12 +54,12 @@ module _ (b : Book) (c k : ℕ) where
   unfolding drawn_of
   earlier_drawn g h i j hg hk lg a p q l =
       let gs = suppliers b.plan c in
-      Turns.before-drawn (serving b) (stock b) (want b) (source g i) (source h j) (turn c k)
+      Turns.before_drawn (serving b) (stock b) (want b) (source g i) (source h j) (turn c k)
       (rw (serving_at b c k hk) (sources_before k i j g h gs hk p q (sorted_before (standing b.plan c) gs g h suppliers_sorted (supplier_in b g c hg lg) a))) l
 
   -- a generator gives peak energy to a class below peak only where it gives all that it then has of that class
   pub own_class_first : (g : ℕ) → g < b.plan.G → k < peak → b.plan.link g c ≡ 1 → 0 < drawn_of b g peak c k → drawn_of b g k c k ≡ has_at (source g k)
   unfolding drawn_of
   own_class_first g hg hk lg l =
-      Turns.before-drawn (serving b) (stock b) (want b) (source g k) (source g peak) (turn c k)
+      Turns.before_drawn (serving b) (stock b) (want b) (source g k) (source g peak) (turn c k)
       (rw (serving_at b c k (omega arith)) (own_before k g (suppliers b.plan c) hk (supplier_in b g c hg lg))) l

@@ -66,7 +66,7 @@ module _ (b : Book) (old : by_hours b ≡ false) where
     at_peak = fun_ext (λ g. at g ∙ ap (λ (f : ℕ → ℕ). f g) same)
       where
         stays : (g k : ℕ) → k < peak → now (suc (turn c k)) (source g peak) ≡ now (turn c k) (source g peak)
-        stays g k l = Turns.stock-stays (serving b) (stock b) (want b) (source g peak) (turn c k) (want_below b old c k l)
+        stays g k l = Turns.stock_stays (serving b) (stock b) (want b) (source g peak) (turn c k) (want_below b old c k l)
 
         at : (g : ℕ) → now (turn c peak) (source g peak) ≡ now (c * classes) (source g peak)
         at g =
@@ -111,13 +111,13 @@ module _ (b : Book) (old : by_hours b ≡ false) where
 
   drawn_below : (g j c : ℕ) → j < peak → sum classes (λ k. drawn_of b g j c k) ≡ 0
   drawn_below g j c l =
-      omega (arith, consumer_drawn b g j c, Turns.stock-most (serving b) (stock b) (want b) (source g j) (c * classes), stock_below b old g j l)
+      omega (arith, consumer_drawn b g j c, Turns.stock_most (serving b) (stock b) (want b) (source g j) (c * classes), stock_below b old g j l)
 
   former_next : (g c : ℕ) → former_drawn b g c + former_banks b (suc c) g ≡ former_banks b c g
   unfolding former_drawn former_banks
   former_next g c =
       let gs = suppliers b.plan in
-      omega (arith, Turns.stock-next gs (former_credited b) (former_open b) g c, Turns.drawn-le gs (former_credited b) (former_open b) g c)
+      omega (arith, Turns.stock_next gs (former_credited b) (former_open b) g c, Turns.drawn_le gs (former_credited b) (former_open b) g c)
 
   drawn_former : (g c : ℕ) → drawn b g c ≡ former_drawn b g c
   unfolding drawn sum

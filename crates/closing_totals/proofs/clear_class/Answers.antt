@@ -29,4 +29,4 @@ returns c =
     let pending = last.before.before.before.before in
     let bank = pending.before.before.before.before in
     let a = bank.args in
-    class_all a.n a.m a.start a.s-1.now bank.clear_numbers.ensures pending.clear_numbers-2.ensures last.clear_numbers-3.ensures
+    class_all a.n a.m a.start a.s.now bank.clear_numbers.ensures pending.clear_numbers-2.ensures last.clear_numbers-3.ensures

@@ -30,4 +30,4 @@ returns c =
     let cleared = emptied.before.before.before.before in
     let replaced = cleared.before.before.before.before in
     let a = replaced.args in
-    stocks_all a.n a.m a.out.now a.s-1.now replaced.replace_numbers.ensures cleared.clear_numbers.ensures emptied.clear_numbers-2.ensures
+    stocks_all a.n a.m a.out.now a.s.now replaced.replace_numbers.ensures cleared.clear_numbers.ensures emptied.clear_numbers-2.ensures

@@ -24,7 +24,7 @@ module _ (slot : ℕ) {t : Bool} (first : t ≡ within 37 68 slot) where
 
 pub returns-then-in_range : goal.returns-then-in_range
 unfolding slot_after
-returns-then-in_range c = is_off_peak (slot_after c.args.month) c.sizes_in_range.ensures c.if-in_range.true
+returns-then-in_range c = is_off_peak (slot_after c.args.month) c.in_range.ensures c.if-in_range.true
 
 pub returns-then-in_range-2 : goal.returns-then-in_range-2
 unfolding slot_after
@@ -33,7 +33,7 @@ returns-then-in_range-2 c =
     let second = third.before in
     let other = second.before in
     let first = other.before in
-    is_peak (slot_after first.args.month) first.sizes_in_range.ensures second.in_range-2.ensures third.in_range-3.ensures other.if-in_range.false c.if-in_range-2.true
+    is_peak (slot_after first.args.month) first.in_range.ensures second.in_range-2.ensures third.in_range-3.ensures other.if-in_range.false c.if-in_range-2.true
 
 pub returns : goal.returns
 unfolding slot_after
@@ -42,4 +42,4 @@ returns c =
     let second = third.before in
     let other = second.before in
     let first = other.before in
-    is_normal (slot_after first.args.month) first.sizes_in_range.ensures second.in_range-2.ensures third.in_range-3.ensures other.if-in_range.false c.if-in_range-2.false
+    is_normal (slot_after first.args.month) first.in_range.ensures second.in_range-2.ensures third.in_range-3.ensures other.if-in_range.false c.if-in_range-2.false

@@ -12,50 +12,45 @@ use Rattle.agreement_rules.specs.Laws.AgreedReading.{Threes}
 use Rattle.agreement_rules.specs.Laws.AgreedRefusals.{Fitting}
 use Rattle.agreement_rules.specs.Laws.AgreedRefusalsLaws.{sizes_fitting, opening_number, opening_misfit}
 use Rattle.opening_refusal.proofs.refusal.Goals as goal
-use Rattle.opening_refusal.proofs.refusal.Goals.{After-terms_fit-term, Then-sizes_fit}
-
--- where the lists have the lengths that are read, seen from the last test of what is given
-abbrev tested_on : After-terms_fit-term → Then-sizes_fit
-tested_on c = c.before.before.before.before.before.before
-
-fit : (c : Then-sizes_fit) → let a = c.args in sizes_fit a.n a.m a.generator-list.now a.pair-list.now ≡ true
-fit c = sym c.sizes_fit.ensures ∙ c.if-sizes_fit.true
-
-fitting : (c : Then-sizes_fit) → let a = c.args in Fitting a.n a.m a.generator-list.now a.pair-list.now
-fitting c = sizes_fitting _ _ _ _ (fit c)
+use Rattle.opening_refusal.proofs.refusal.Goals.{Then-sizes_fit}
 
 threes : (c : Then-sizes_fit) (k : ℕ) → k < 3 → let a = c.args in Threes a.generator-list.now a.n k
 threes c k h = record { size = (fitting c).generators_size; few = (fitting c).G_high; third = h }
 
 pub overflow_mul-count : goal.overflow_mul-count
-overflow_mul-count c = let f = fitting c in omega (arith, mul-le-mul f.G_high f.C_high)
+overflow_mul-count c =
+    let fit : let a = c.args in sizes_fit a.n a.m a.generator-list.now a.pair-list.now ≡ true = sym c.sizes_fit.ensures ∙ c.if-sizes_fit.true in
+    let fitting : let a = c.args in Fitting a.n a.m a.generator-list.now a.pair-list.now = sizes_fitting _ _ _ _ fit in
+    let f = fitting in omega (arith, mul-le-mul f.G_high f.C_high)
 
 pub column_over-kind-requires : goal.column_over-kind-requires
 column_over-kind-requires c = threes c 0 (omega arith)
 
 pub column_over-requires : goal.column_over-requires
-column_over-requires c = threes c.before 1 (omega arith)
+column_over-requires c = threes c 1 (omega arith)
 
 pub column_over-requires-then-sizes_fit : goal.column_over-requires-then-sizes_fit
-column_over-requires-then-sizes_fit c = threes c.before.before 2 (omega arith)
+column_over-requires-then-sizes_fit c = threes c 2 (omega arith)
 
 pub any_outside-requires : goal.any_outside-requires
-any_outside-requires c = omega (arith, (fitting c.before.before.before).pairs_size)
+any_outside-requires c =
+    let fit : let a = c.args in sizes_fit a.n a.m a.generator-list.now a.pair-list.now ≡ true = sym c.sizes_fit.ensures ∙ c.if-sizes_fit.true in
+    let fitting : let a = c.args in Fitting a.n a.m a.generator-list.now a.pair-list.now = sizes_fitting _ _ _ _ fit in
+    omega (arith, fitting.pairs_size)
 
 pub any_outside-requires-then-sizes_fit : goal.any_outside-requires-then-sizes_fit
-any_outside-requires-then-sizes_fit c = omega (arith, (fitting c.before.before.before.before).pairs_size)
+any_outside-requires-then-sizes_fit c =
+    let fit : let a = c.args in sizes_fit a.n a.m a.generator-list.now a.pair-list.now ≡ true = sym c.sizes_fit.ensures ∙ c.if-sizes_fit.true in
+    let fitting : let a = c.args in Fitting a.n a.m a.generator-list.now a.pair-list.now = sizes_fitting _ _ _ _ fit in
+    omega (arith, fitting.pairs_size)
 
 pub returns-then-sizes_fit : goal.returns-then-sizes_fit
 returns-then-sizes_fit c =
-    let six = c.before.before.before in
-    let switch = six.before.before in
-    let terms = switch.before in
-    let pair = terms.before in
-    let capacity = pair.before.before in
-    opening_number _ _ _ _ _ _ _ _ (fit (tested_on terms))
-    capacity.column_over-kind.ensures capacity.column_over.ensures capacity.column_over-then-sizes_fit.ensures
-    pair.any_outside.ensures pair.any_outside-then-sizes_fit.ensures terms.terms_fit-term.ensures (ap (ltb most_switch) switch.wide-late.ensures)
-    six.first.ensures six.first-last.ensures c.first-then-sizes_fit.ensures c.first-later.ensures c.first-then-sizes_fit-2.ensures
+    let fit : let a = c.args in sizes_fit a.n a.m a.generator-list.now a.pair-list.now ≡ true = sym c.sizes_fit.ensures ∙ c.if-sizes_fit.true in
+    opening_number _ _ _ _ _ _ _ _ fit
+    c.column_over-kind.ensures c.column_over.ensures c.column_over-then-sizes_fit.ensures
+    c.any_outside.ensures c.any_outside-then-sizes_fit.ensures c.terms_fit-term.ensures (ap (ltb most_switch) c.wide-late.ensures)
+    c.first.ensures c.first-last.ensures c.first-then-sizes_fit.ensures c.first-later.ensures c.first-then-sizes_fit-2.ensures
 
 pub returns-else-sizes_fit : goal.returns-else-sizes_fit
 returns-else-sizes_fit c = sym (opening_misfit _ _ _ _ _ _ _ _ (sym c.sizes_fit.ensures ∙ c.if-sizes_fit.false))

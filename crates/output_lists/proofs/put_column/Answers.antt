@@ -15,16 +15,16 @@ at : (c : In-loop-g) → let a = c.args in Spot a.n a.m c.loop-g.g a.c
 at c = let p = c.requires in spot _ _ _ _ (search rules) p.1.0 p.1.1.0 p.1.1.1
 
 pub overflow_mul-list : goal.overflow_mul-list
-overflow_mul-list c = omega (arith, (at c.before).row)
+overflow_mul-list c = omega (arith, (at c.before.before.before).row)
 
 pub overflow_add-list : goal.overflow_add-list
-overflow_add-list c = omega (arith, (at c.before).row, c.requires.1.1)
+overflow_add-list c = omega (arith, (at c.before.before.before).row, c.requires.1.1)
 
 pub offset_bounds-list-g : goal.offset_bounds-list-g
-offset_bounds-list-g c = omega (arith, (at c.before).row, c.requires.1.1)
+offset_bounds-list-g c = omega (arith, (at c.before.before.before).row, c.requires.1.1)
 
 pub bounds-list-g : goal.bounds-list-g
-bounds-list-g c = omega (arith, (at c.before).within, c.loop-g.invariant.0.size)
+bounds-list-g c = omega (arith, (at c.before.before.before).within, c.loop-g.invariant.0.size)
 
 pub loop-g-preserved : goal.loop-g-preserved
 loop-g-preserved c = (put_step c.loop-g.invariant.0 (search rules) (search rules) refl, search rules)

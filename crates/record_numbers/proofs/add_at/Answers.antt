@@ -9,4 +9,4 @@ pub returns : goal.returns
 returns c =
     let summed = c.before.before.before.before in
     let a = summed.args in
-    c.put_at.ensures.0 ∙ ap (set (words_in a.s-1.now) a.k) summed.sum_at-sum.ensures
+    c.put_at.ensures.0 ∙ ap (set (words_in a.s.now) a.k) summed.sum_at-sum.ensures

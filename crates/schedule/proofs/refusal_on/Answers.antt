@@ -7,20 +7,16 @@ use Rattle.record.specs.Sound.{sound}
 use Rattle.schedule.specs.Laws.ScheduleEntered.{number_read}
 use Rattle.record_layout.specs.OnBytes.{book_in}
 use Rattle.schedule.proofs.refusal_on.Goals as goal
-use Rattle.schedule.proofs.refusal_on.Goals.{Then-is_sound}
-
-passed : (c : Then-is_sound) → sound (book_in c.args.s.now) ≡ true
-passed c = sym c.is_sound.ensures ∙ c.if-is_sound.true
 
 pub refusal-requires : goal.refusal-requires
-refusal-requires c = let t = c.before.before.before in terms_few _ t.requires.terms_are (passed t)
+refusal-requires c =
+    let passed : sound (book_in c.args.s.now) ≡ true = sym c.is_sound.ensures ∙ c.if-is_sound.true in
+    terms_few _ c.requires.terms_are passed
 
 pub returns-then-is_sound : goal.returns-then-is_sound
 returns-then-is_sound c =
-    let pairs = c.before.before in
-    let agreed = pairs.before in
-    let t = agreed.before in
-    number_read _ _ _ (passed t) t.requires.terms_are agreed.load_agreed-agreed.ensures pairs.load_pairs-link.ensures c.refusal.ensures
+    let passed : sound (book_in c.args.s.now) ≡ true = sym c.is_sound.ensures ∙ c.if-is_sound.true in
+    number_read _ _ _ passed c.requires.terms_are c.load_agreed-agreed.ensures c.load_pairs-link.ensures c.refusal.ensures
 
 pub returns-else-is_sound : goal.returns-else-is_sound
 returns-else-is_sound c = sym (number_unsound _ _ (sym c.is_sound.ensures ∙ c.if-is_sound.false))

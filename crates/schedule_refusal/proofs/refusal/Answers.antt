@@ -8,29 +8,30 @@ use borrow.Author.Rules.{rules}
 use Rattle.agreement_rules.specs.Laws.AgreedReading.{RowsAt}
 use Rattle.agreement_rules.specs.Laws.AgreedRefusalsLaws.{schedule_number, schedule_misfit, schedule_sizes}
 use Rattle.schedule_refusal.proofs.refusal.Goals as goal
-use Rattle.schedule_refusal.proofs.refusal.Goals.{Then-kws-count}
 
 pub overflow_mul-count : goal.overflow_mul-count
 overflow_mul-count c = omega (arith, mul-le-mul c.requires.0 c.requires.1)
 
-sizes : (c : Then-kws-count) → let a = c.args in (length a.kws.now ≡ a.n * a.m) × (length a.ranks.now ≡ a.n * a.m)
-sizes c = let a = c.args in schedule_sizes a.n a.m a.kws.now a.ranks.now c.if-kws-count.true
-
-rows : (c : Then-kws-count) → let a = c.args in RowsAt a.kws.now 0 a.n a.m
-rows c = let s = c.before.before.before in record { fits = omega (arith, (sizes c).0); few_rows = s.requires.0; few = s.requires.1 }
-
 pub off_link-unlinked-requires : goal.off_link-unlinked-requires
-off_link-unlinked-requires c = rows c
+off_link-unlinked-requires c =
+    let sizes : let a = c.args in (length a.kws.now ≡ a.n * a.m) × (length a.ranks.now ≡ a.n * a.m) = let a = c.args in schedule_sizes a.n a.m a.kws.now a.ranks.now c.if-kws-count.true in
+    let rows : let a = c.args in RowsAt a.kws.now 0 a.n a.m = record { fits = omega (arith, sizes.0); few_rows = c.requires.0; few = c.requires.1 } in
+    rows
 
 pub over_capacity-over-requires : goal.over_capacity-over-requires
-over_capacity-over-requires c = rows c.before
+over_capacity-over-requires c =
+    let sizes : let a = c.args in (length a.kws.now ≡ a.n * a.m) × (length a.ranks.now ≡ a.n * a.m) = let a = c.args in schedule_sizes a.n a.m a.kws.now a.ranks.now c.if-kws-count.true in
+    let rows : let a = c.args in RowsAt a.kws.now 0 a.n a.m = record { fits = omega (arith, sizes.0); few_rows = c.requires.0; few = c.requires.1 } in
+    rows
 
 pub any_outside-rank-requires : goal.any_outside-rank-requires
-any_outside-rank-requires c = omega (arith, (sizes c.before.before).1)
+any_outside-rank-requires c =
+    let sizes : let a = c.args in (length a.kws.now ≡ a.n * a.m) × (length a.ranks.now ≡ a.n * a.m) = let a = c.args in schedule_sizes a.n a.m a.kws.now a.ranks.now c.if-kws-count.true in
+    omega (arith, sizes.1)
 
 pub returns-then-kws-count : goal.returns-then-kws-count
-returns-then-kws-count c = let a = c.before.before.before in
-    schedule_number _ _ _ _ _ _ a.if-kws-count.true a.off_link-unlinked.ensures a.over_capacity-over.ensures a.any_outside-rank.ensures
+returns-then-kws-count c =
+    schedule_number _ _ _ _ _ _ c.if-kws-count.true c.off_link-unlinked.ensures c.over_capacity-over.ensures c.any_outside-rank.ensures
     c.first.ensures c.first-then-kws-count.ensures c.first-then-kws-count-2.ensures
 
 pub returns-else-kws-count : goal.returns-else-kws-count

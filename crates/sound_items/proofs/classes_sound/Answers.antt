@@ -6,5 +6,5 @@ use Rattle.sound_items.proofs.classes_sound.Goals as goal
 pub returns : goal.returns
 returns c =
     classes_added _ _ _ _ (search rules) (search rules) (search rules) (search rules)
-    c.wrapping_add_u64-two.ensures
-    c.wrapping_add_u64-three.ensures
+    c.wrapping_add_u64-two.ensures.value
+    c.wrapping_add_u64-three.ensures.value

@@ -10,4 +10,4 @@ returns c =
     let after-in-range3 = c.before.before.before.before.before in
     let after-in-range2 = after-in-range3.before.before in
     let after-in-range = after-in-range2.before in
-    rw (after-in-range.sizes_in_range.ensures, after-in-range2.in_range-2.ensures, after-in-range3.in_range-3.ensures)
+    rw (after-in-range.in_range.ensures, after-in-range2.in_range-2.ensures, after-in-range3.in_range-3.ensures)

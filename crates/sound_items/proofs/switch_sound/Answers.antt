@@ -11,4 +11,4 @@ returns c =
     let added = c.before.before.before.before in
     let a = added.args in
     ap (λ (t : Bool). (leb a.t.month most_switch && t) && (not a.hours || eqb a.n.gone 0))
-    (sum_within a.t.closings a.n.monthblocks a.n.unitblocks (search rules) (search rules) (search rules) added.wrapping_add_u64-sum.ensures)
+    (sum_within a.t.closings a.n.monthblocks a.n.unitblocks (search rules) (search rules) (search rules) added.wrapping_add_u64-sum.ensures.value)

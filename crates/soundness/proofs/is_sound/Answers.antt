@@ -5,39 +5,42 @@ use borrow.Author.Rules.{rules}
 use Rattle.sound_items.specs.Laws.SoundTests.{counts_test, CountsFit, counts_fit}
 use Rattle.soundness.specs.Laws.PlacesHeldLaws.{sound_held, unsound_held}
 use Rattle.soundness.proofs.is_sound.Goals as goal
-use Rattle.soundness.proofs.is_sound.Goals.{Then-counts_sound}
-
-passed : (c : Then-counts_sound) → let a = c.args in counts_test a.terms a.counts ≡ true
-passed c = sym c.counts_sound.ensures ∙ c.if-counts_sound.true
-
-fit : (c : Then-counts_sound) → let a = c.args in CountsFit a.terms.generators a.terms.consumers a.counts.unitblocks
-fit c = counts_fit _ _ (passed c)
 
 pub agreed_all_sound-requires : goal.agreed_all_sound-requires
-agreed_all_sound-requires c = (c.requires.whole, (fit c).consumers_fit)
+agreed_all_sound-requires c =
+    let passed : let a = c.args in counts_test a.terms a.counts ≡ true = sym c.counts_sound.ensures ∙ c.if-counts_sound.true in
+    let fit : let a = c.args in CountsFit a.terms.generators a.terms.consumers a.counts.unitblocks = counts_fit _ _ passed in
+    (c.requires.whole, fit.consumers_fit)
 
 pub pairs_sound-requires : goal.pairs_sound-requires
-pairs_sound-requires c = let t = c.before in (t.requires.whole, ((fit t).generators_fit, (fit t).consumers_fit))
+pairs_sound-requires c =
+    let passed : let a = c.args in counts_test a.terms a.counts ≡ true = sym c.counts_sound.ensures ∙ c.if-counts_sound.true in
+    let fit : let a = c.args in CountsFit a.terms.generators a.terms.consumers a.counts.unitblocks = counts_fit _ _ passed in
+    (c.requires.whole, (fit.generators_fit, fit.consumers_fit))
 
 pub generators_sound-requires : goal.generators_sound-requires
-generators_sound-requires c = let t = c.before.before in (t.requires.whole, (fit t).blocks_fit)
+generators_sound-requires c =
+    let passed : let a = c.args in counts_test a.terms a.counts ≡ true = sym c.counts_sound.ensures ∙ c.if-counts_sound.true in
+    let fit : let a = c.args in CountsFit a.terms.generators a.terms.consumers a.counts.unitblocks = counts_fit _ _ passed in
+    (c.requires.whole, fit.blocks_fit)
 
 pub consumers_sound-requires : goal.consumers_sound-requires
-consumers_sound-requires c = let t = c.before.before.before in (t.requires.whole, (fit t).blocks_fit)
+consumers_sound-requires c =
+    let passed : let a = c.args in counts_test a.terms a.counts ≡ true = sym c.counts_sound.ensures ∙ c.if-counts_sound.true in
+    let fit : let a = c.args in CountsFit a.terms.generators a.terms.consumers a.counts.unitblocks = counts_fit _ _ passed in
+    (c.requires.whole, fit.blocks_fit)
 
 pub hours_sound-requires : goal.hours_sound-requires
 hours_sound-requires c = let p = c.requires in (p.whole, p.counts_are)
 
 pub returns-then-counts_sound : goal.returns-then-counts_sound
 returns-then-counts_sound c =
-    let consumers = c.before in
-    let agreed = consumers.before.before.before in
-    let t = agreed.before in
-    sound_held _ t.requires (passed t)
-    agreed.agreed_all_sound.ensures
-    consumers.pairs_sound.ensures
-    consumers.generators_sound.ensures
-    consumers.consumers_sound.ensures
+    let passed : let a = c.args in counts_test a.terms a.counts ≡ true = sym c.counts_sound.ensures ∙ c.if-counts_sound.true in
+    sound_held _ c.requires passed
+    c.agreed_all_sound.ensures
+    c.pairs_sound.ensures
+    c.generators_sound.ensures
+    c.consumers_sound.ensures
     c.hours_sound.ensures
 
 pub returns-else-counts_sound : goal.returns-else-counts_sound

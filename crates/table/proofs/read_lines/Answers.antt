@@ -12,15 +12,15 @@ write_values-requires c = search (rules, formed_tested, room_tested)
 
 pub returns-then-not-well_formed : goal.returns-then-not-well_formed
 returns-then-not-well_formed c =
-    lines_15 c.args.out-1.now (sym c.well_formed-2.ensures ∙ not-true _ c.if-not-well_formed.true)
+    lines_15 c.args.out.now (sym c.well_formed-2.ensures ∙ c.if-not-well_formed.true)
 
 pub returns-then-out-k : goal.returns-then-out-k
 returns-then-out-k c =
     let after-well-formed = c.before.before.before in
     let start = after-well-formed.before.before.before in
     lines_16
-    start.args.out-1.now
-    (sym after-well-formed.well_formed-2.ensures ∙ not-false _ c.if-not-well_formed.false)
+    start.args.out.now
+    (sym after-well-formed.well_formed-2.ensures ∙ c.if-not-well_formed.false)
     (omega (arith, c.count_values-k.ensures, c.if-out-k.true))
 
 pub returns : goal.returns
@@ -32,6 +32,6 @@ returns c =
     (lines_laid
     _
     _
-    (sym k.well_formed-2.ensures ∙ not-false _ k.if-not-well_formed.false)
+    (sym k.well_formed-2.ensures ∙ k.if-not-well_formed.false)
     (omega (arith, k.count_values-k.ensures, at-if2.if-out-k.false))
     after-write-values.write_values.ensures)

@@ -14,22 +14,22 @@ returns-then-not-in_range c =
     s.args.g
     s.args.c
     s.args.text.now
-    s.args.out-1.now
-    (sym c.sizes_in_range.ensures ∙ not-true _ c.if-not-in_range.true)
+    s.args.out.now
+    (sym c.sizes_in_range.ensures ∙ c.if-not-in_range.true)
 
 pub names_length-names-requires : goal.names_length-names-requires
-names_length-names-requires c = sym c.sizes_in_range.ensures ∙ not-false _ c.if-not-in_range.false
+names_length-names-requires c = sym c.sizes_in_range.ensures ∙ c.if-not-in_range.false
 
 pub returns-then-names-eq0 : goal.returns-then-names-eq0
 returns-then-names-eq0 c =
     let after-in-range = c.before.before.before in
     let s = after-in-range.before.before.before in
-    let r = sym after-in-range.sizes_in_range.ensures ∙ not-false _ c.if-not-in_range.false in
+    let r = sym after-in-range.sizes_in_range.ensures ∙ c.if-not-in_range.false in
     meets_14
     s.args.g
     s.args.c
     s.args.text.now
-    s.args.out-1.now
+    s.args.out.now
     r
     (not_begun
     s.args.g
@@ -42,14 +42,14 @@ returns-then-names-eq0 c =
 
 pub overflow_add-w : goal.overflow_add-w
 overflow_add-w c =
-    let a = ranged _ _ (sym c.sizes_in_range.ensures ∙ not-false _ c.if-not-in_range.false) in
+    let a = ranged _ _ (sym c.sizes_in_range.ensures ∙ c.if-not-in_range.false) in
     search rules
 
 pub slice_bounds-read_lines-count : goal.slice_bounds-read_lines-count
 slice_bounds-read_lines-count c =
     begun_within
     (begun
-    (sym c.sizes_in_range.ensures ∙ not-false _ c.if-not-in_range.false)
+    (sym c.sizes_in_range.ensures ∙ c.if-not-in_range.false)
     c.names_length-names.ensures
     c.if-names-eq0.false)
 
@@ -57,14 +57,14 @@ pub slice_bounds-read_lines-start : goal.slice-bounds-read-lines-start
 slice_bounds-read_lines-start c =
     begun_within
     (begun
-    (sym c.sizes_in_range.ensures ∙ not-false _ c.if-not-in_range.false)
+    (sym c.sizes_in_range.ensures ∙ c.if-not-in_range.false)
     c.names_length-names.ensures
     c.if-names-eq0.false)
 
 pub read_lines-requires : goal.read_lines-requires
 read_lines-requires c =
     let b = c.before.before.before.before in
-    let a = ranged _ _ (sym b.sizes_in_range.ensures ∙ not-false _ b.if-not-in_range.false) in
+    let a = ranged _ _ (sym b.sizes_in_range.ensures ∙ b.if-not-in_range.false) in
     omega arith
 
 pub returns : goal.returns
@@ -72,13 +72,13 @@ returns c =
     let at-if2 = c.before.before.before.before.before in
     let b = at-if2.before in
     let s = b.before.before.before.before.before in
-    let r = sym b.sizes_in_range.ensures ∙ not-false _ b.if-not-in_range.false in
+    let r = sym b.sizes_in_range.ensures ∙ b.if-not-in_range.false in
     meets
     {g = s.args.g}
     {c = s.args.c}
     {n = b.names_length-names.result}
     {text = s.args.text.now}
-    s.args.out-1.now
+    s.args.out.now
     c.read_lines.result
     c.read_lines.new.out
     (begun r b.names_length-names.ensures at-if2.if-names-eq0.false)

@@ -1,7 +1,5 @@
 -- `table::write_values` meets its contract. The loop's invariant: the values passed are laid, and what is to come holds the others. Assumes nothing.
 use mathlib.Core.Path.{sym, ◌∙◌}
-use mathlib.Core.Logic.{⊎_elim}
-use borrow.Author.Tests.{not-true, not-false}
 use Prim.Native.Nat.{◌-◌}
 use lib.ListN.{length, get_or}
 use native.Mathlib.Omega.{arith}
@@ -9,13 +7,14 @@ use borrow.Author.Rules.{rules}
 use Rattle.table.specs.Table.{from_start}
 use Rattle.table.specs.Laws.ReaderLoops.{ended_few, Writing, writing_start, writing_digit, writing_end, writing_room, writing_length, writing_done}
 use Rattle.table.proofs.write_values.Goals as goal
+use Rattle.table.proofs.write_values.Goals.{then-not-is_digit, else-not-is_digit}
 
 pub loop-i-init : goal.loop-i-init
 loop-i-init c = writing_start (search rules) (search rules)
 
 pub offset_bounds-out-k : goal.offset_bounds-out-k
 offset_bounds-out-k c =
-    let d = sym c.is_digit.ensures ∙ not-true _ c.if-not-is_digit.true in
+    let d = sym c.is_digit.ensures ∙ c.if-not-is_digit.true in
     let l = writing_room c.loop-i.invariant (search rules) d in
     search rules
 
@@ -24,7 +23,7 @@ bounds-out-k c =
     writing_room
     c.loop-i.invariant
     (search rules)
-    (sym c.is_digit.ensures ∙ not-true _ c.if-not-is_digit.true)
+    (sym c.is_digit.ensures ∙ c.if-not-is_digit.true)
 
 pub overflow_add-k : goal.overflow_add-k
 overflow_add-k c =
@@ -33,15 +32,12 @@ overflow_add-k c =
 
 pub loop-i-preserved : goal.loop-i-preserved
 loop-i-preserved c =
-    let at-if1 = c.before.before.before in
-    let b = at-if1.before in
-    let at-loop = b.before.before.before in
-    let h = at-loop.loop-i.invariant in
+    let h = c.loop-i.invariant in
     let n = rw c.separator_after-sep.ensures at c.next_byte-at.ensures in
-    ⊎_elim
-    (λ u. rw u.2 (writing_end h (search rules) (sym b.is_digit.ensures ∙ not-true _ u.0.true) u.1.ensures n c.values_ended-k.ensures))
-    (λ u. rw u.1 (writing_digit h (search rules) (sym b.is_digit.ensures ∙ not-false _ u.0.left) n c.values_ended-k.ensures))
-    at-if1.if-not-is_digit.branch
+    elim c.if-not-is_digit.branch [
+      then-not-is_digit u ↦ ?
+      | else-not-is_digit u ↦ rw u.out-is (writing_digit h (search rules) (sym c.is_digit.ensures ∙ u.if-not-is_digit.false) n c.values_ended-k.ensures)
+    ]
 
 pub shape_of-out : goal.shape_of-out
 shape_of-out c = writing_length c.loop-i.invariant

@@ -7,7 +7,7 @@ use Rattle.wheel_month.specs.Laws.Entering.{Entering, entering_start, entering_s
 use Rattle.wheel_month.proofs.enter_lines.Goals as goal
 
 pub loop-i-init : goal.loop-i-init
-loop-i-init c = let start = c.before.before in entering_start start.args.s-1.now start.args.values.now start.requires
+loop-i-init c = let start = c.before.before in entering_start start.args.s.now start.args.values.now start.requires
 
 pub returns-then-number-ne0 : goal.returns-then-number-ne0
 returns-then-number-ne0 c =

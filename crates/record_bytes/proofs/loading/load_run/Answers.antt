@@ -14,6 +14,6 @@ returns c =
     let start = call.before.before.before.before.before in
     let s = start.args.s.now in
     let at = start.args.at in
-    let n = length start.args.out-1.now in
+    let n = length start.args.out.now in
     let bytes : at * 8 + n * 8 - at * 8 ≡ n * 8 = omega arith in
     (rw bytes at call.read8.ensures) ∙ sym (decode_part 8 record_numbers at n s start.requires.1)

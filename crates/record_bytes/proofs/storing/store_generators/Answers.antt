@@ -4,62 +4,20 @@ use borrow.Author.Rules.{rules}
 use Rattle.lists.specs.Pairs.{joined}
 use Rattle.record_layout.specs.Laws.Layout.{laid_run, laid_then, laid_last}
 use Rattle.record_bytes.proofs.storing.store_generators.Goals as goal
-use Rattle.record_bytes.proofs.storing.store_generators.Goals.{After-store_run, After-store_run-10, After-store_run-2, After-store_run-3, After-store_run-4, After-store_run-5, After-store_run-6, After-store_run-7, After-store_run-8, After-store_run-9, Start}
-
--- the call that stored a list, seen from the one that stored the next; where the function started, seen from the last
-abbrev one : After-store_run-2 → After-store_run
-one c = c.before.before.before.before.before.before.before
-
-abbrev two : After-store_run-3 → After-store_run-2
-two c = c.before.before.before.before.before.before.before
-
-abbrev three : After-store_run-4 → After-store_run-3
-three c = c.before.before.before.before.before.before.before
-
-abbrev four : After-store_run-5 → After-store_run-4
-four c = c.before.before.before.before.before.before.before
-
-abbrev five : After-store_run-6 → After-store_run-5
-five c = c.before.before.before.before.before.before.before
-
-abbrev six : After-store_run-7 → After-store_run-6
-six c = c.before.before.before.before.before.before.before
-
-abbrev seven : After-store_run-8 → After-store_run-7
-seven c = c.before.before.before.before.before.before.before
-
-abbrev eight : After-store_run-9 → After-store_run-8
-eight c = c.before.before.before.before.before.before.before
-
-abbrev nine : After-store_run-10 → After-store_run-9
-nine c = c.before.before.before.before.before.before.before
-
-abbrev start : After-store_run-10 → Start
-start c = (one (two (three (four (five (six (seven (eight (nine c))))))))).before.before.before.before.before.before
 
 pub shape_of-s : goal.shape_of-s
-shape_of-s c = let last = c.before.before in omega (arith, last.store_run-10.ensures.size, (start last).requires)
+shape_of-s c = omega (arith, c.store_run-10.ensures.size, c.requires)
 
 pub returns : goal.returns
 unfolding joined
 returns c =
-    let c10 = c.before.before in
-    let c9 = nine c10 in
-    let c8 = eight c9 in
-    let c7 = seven c8 in
-    let c6 = six c7 in
-    let c5 = five c6 in
-    let c4 = four c5 in
-    let c3 = three c4 in
-    let c2 = two c3 in
-    let c1 = one c2 in
-    laid_then (laid_run c1.store_run-arg-2-1.given.0 c1.store_run.ensures)
-    (laid_then (laid_run c2.store_run-arg-5-1.given.0 c2.store_run-2.ensures)
-    (laid_then (laid_run c3.store_run-arg-8-1.given.0 c3.store_run-3.ensures)
-    (laid_then (laid_run c4.store_run-arg-11-1.given.0 c4.store_run-4.ensures)
-    (laid_then (laid_run c5.store_run-arg-14-1.given.0 c5.store_run-5.ensures)
-    (laid_then (laid_run c6.store_run-arg-17-1.given.0 c6.store_run-6.ensures)
-    (laid_then (laid_run c7.store_run-arg-20-1.given.0 c7.store_run-7.ensures)
-    (laid_then (laid_run c8.store_run-arg-23-1.given.0 c8.store_run-8.ensures)
-    (laid_then (laid_run c9.store_run-arg-26-1.given.0 c9.store_run-9.ensures)
-    (laid_last (laid_run c10.store_run-arg-29-1.given.0 c10.store_run-10.ensures))))))))))
+    laid_then (laid_run c.store_run-arg-2-1.given.0 c.store_run.ensures)
+    (laid_then (laid_run c.store_run-arg-5-1.given.0 c.store_run-2.ensures)
+    (laid_then (laid_run c.store_run-arg-8-1.given.0 c.store_run-3.ensures)
+    (laid_then (laid_run c.store_run-arg-11-1.given.0 c.store_run-4.ensures)
+    (laid_then (laid_run c.store_run-arg-14-1.given.0 c.store_run-5.ensures)
+    (laid_then (laid_run c.store_run-arg-17-1.given.0 c.store_run-6.ensures)
+    (laid_then (laid_run c.store_run-arg-20-1.given.0 c.store_run-7.ensures)
+    (laid_then (laid_run c.store_run-arg-23-1.given.0 c.store_run-8.ensures)
+    (laid_then (laid_run c.store_run-arg-26-1.given.0 c.store_run-9.ensures)
+    (laid_last (laid_run c.store_run-arg-29-1.given.0 c.store_run-10.ensures))))))))))
