@@ -11,17 +11,14 @@ returns-then-g-lt1 c = simp (lt-leb 1 c.args.g c.if-g-lt1.true)
 pub returns-then-g-gt8 : goal.returns-then-g-gt8
 unfolding in_range within
 returns-then-g-gt8 c =
-    let s = c.before.before in
-    simp (le-leb 1 s.args.g c.if-g-lt1.false, lt-leb s.args.g 8 c.if-g-gt8.true)
+    simp (le-leb 1 c.args.g c.if-g-lt1.false, lt-leb c.args.g 8 c.if-g-gt8.true)
 
 pub returns-then-c-lt1 : goal.returns-then-c-lt1
 unfolding in_range within
 returns-then-c-lt1 c =
-    let s = c.before.before.before in
-    simp (le-leb 1 s.args.g c.if-g-lt1.false, le-leb s.args.g 8 c.if-g-gt8.false, lt-leb 1 s.args.c c.if-c-lt1.true)
+    simp (le-leb 1 c.args.g c.if-g-lt1.false, le-leb c.args.g 8 c.if-g-gt8.false, lt-leb 1 c.args.c c.if-c-lt1.true)
 
 pub returns : goal.returns
 unfolding in_range within
 returns c =
-    let s = c.before.before.before in
-    simp (le-leb 1 s.args.g c.if-g-lt1.false, le-leb s.args.g 8 c.if-g-gt8.false, le-leb 1 s.args.c c.if-c-lt1.false)
+    simp (le-leb 1 c.args.g c.if-g-lt1.false, le-leb c.args.g 8 c.if-g-gt8.false, le-leb 1 c.args.c c.if-c-lt1.false)

@@ -16,22 +16,17 @@ returns-then-not-well_formed c =
 
 pub returns-then-out-k : goal.returns-then-out-k
 returns-then-out-k c =
-    let after-well-formed = c.before.before.before in
-    let start = after-well-formed.before.before.before in
     lines_16
-    start.args.out.now
-    (sym after-well-formed.well_formed-2.ensures ∙ c.if-not-well_formed.false)
+    c.args.out.now
+    (sym c.well_formed-2.ensures ∙ c.if-not-well_formed.false)
     (omega (arith, c.count_values-k.ensures, c.if-out-k.true))
 
 pub returns : goal.returns
 returns c =
-    let after-write-values = c.before.before.before in
-    let at-if2 = after-write-values.before.before in
-    let k = at-if2.before in
-    rw (c.count_lines-lines.ensures, k.count_values-k.ensures)
+    rw (c.count_lines-lines.ensures, c.count_values-k.ensures)
     (lines_laid
     _
     _
-    (sym k.well_formed-2.ensures ∙ k.if-not-well_formed.false)
-    (omega (arith, k.count_values-k.ensures, at-if2.if-out-k.false))
-    after-write-values.write_values.ensures)
+    (sym c.well_formed-2.ensures ∙ c.if-not-well_formed.false)
+    (omega (arith, c.count_values-k.ensures, c.if-out-k.false))
+    c.write_values.ensures)

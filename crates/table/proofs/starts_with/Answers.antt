@@ -13,12 +13,10 @@ loop-i-init c = match_start (search rules)
 
 pub returns-then-text-i : goal.returns-then-text-i
 returns-then-text-i c =
-    let at-loop = c.before.before.before.before in
-    let start = at-loop.before.before in
     match_differs
-    start.args.text.now
-    start.args.line.now
-    at-loop.loop-i.i
+    c.args.text.now
+    c.args.line.now
+    c.loop-i.i
     (search rules)
     c.if-text-i.true
 

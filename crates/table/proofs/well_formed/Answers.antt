@@ -12,8 +12,7 @@ loop-i-init c = scan_start
 
 pub overflow_add-k : goal.overflow_add-k
 overflow_add-k c =
-    let l = c.before.before.before.before.before in
-    omega (arith, ended_few (get_or l.args.s.now l.loop-i.i 0))
+    omega (arith, ended_few (get_or c.args.s.now c.loop-i.i 0))
 
 pub loop-i-preserved : goal.loop-i-preserved
 loop-i-preserved c =
