@@ -1,7 +1,7 @@
 -- `block::block` meets its contract: the call on the record's bytes is the call on the record. Assumes nothing.
 use borrow.Author.Rules.{rules}
 use Rattle.record_layout.specs.Laws.OnBytesLaws.{on_struct}
-use Rattle.block_rules.specs.Laws.BlockLaws.{block_keeps}
+use Rattle.block_rules.proofs.BlockLaws.{block_keeps}
 use Rattle.block.proofs.block.Goals as goal
 
 pub returns : goal.returns

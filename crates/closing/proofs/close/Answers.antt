@@ -1,7 +1,7 @@
 -- `closing::close` meets its contract: the call on the record's bytes is the call on the record.
 use mathlib.Core.Path.{refl, sym, ◌∙◌}
 use Rattle.record_layout.specs.Laws.OnBytesLaws.{on_struct}
-use Rattle.closing_rules.specs.Laws.ClosingLaws.{closing_keeps}
+use Rattle.closing_rules.proofs.ClosingLaws.{closing_keeps}
 use Rattle.closing.proofs.close.Goals as goal
 
 pub slice_bounds-store-end : goal.slice_bounds-store-end

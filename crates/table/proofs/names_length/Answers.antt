@@ -1,8 +1,5 @@
 -- `table::names_length` meets its contract: the names line is laid into a buffer that is long enough, and compared. Assumes nothing.
-use mathlib.Core.Path.{sym, ◌∙◌}
-use lib.ListN.{length-take}
-use native.Mathlib.Omega.{arith}
-use borrow.Author.Rules.{rules}
+use Rattle.std.proofs.Common.{sym, ◌∙◌, arith, length-take}
 use Rattle.table_text.specs.Laws.LayingLaws.{put_start, put_length}
 use Rattle.table_text.specs.Laws.TableTextLaws.{line_short}
 use Rattle.table.specs.Laws.ReaderParts.{names_length}

@@ -1,14 +1,15 @@
 -- `table::read_lines` meets its contract, by the refusals 15 and 16, and the values laid where neither applies. Assumes nothing.
-use mathlib.Core.Path.{sym, ◌∙◌}
-use native.Mathlib.Omega.{arith}
-use borrow.Author.Rules.{rules}
-use borrow.Author.Tests.{not-true, not-false}
-use Rattle.table.specs.Laws.ReaderMeets.{formed_tested, room_tested, lines_15, lines_16, lines_laid}
+use Rattle.std.proofs.Common.{sym, ◌∙◌, arith}
+use Rattle.table.specs.Laws.ReaderMeets.{lines_15, lines_16, lines_laid}
 use Rattle.table.proofs.read_lines.Goals as goal
 
--- What the write asks stands first, and finds the tests wherever they stand before it.
 pub write_values-requires : goal.write_values-requires
-write_values-requires c = search (rules, formed_tested, room_tested)
+write_values-requires c =
+    record {
+      some = c.requires;
+      formed = sym c.well_formed-2.ensures ∙ c.if-not-well_formed.false;
+      room = omega (arith, c.count_values-k.ensures);
+    }
 
 pub returns-then-not-well_formed : goal.returns-then-not-well_formed
 returns-then-not-well_formed c =

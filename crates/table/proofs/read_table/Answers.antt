@@ -1,27 +1,19 @@
 -- `table::read_table` meets its contract, by the refusals 2 and 14, and the later lines where neither applies. Assumes nothing.
-use mathlib.Core.Path.{sym, ◌∙◌}
-use borrow.Author.Tests.{not-true, not-false}
-use native.Mathlib.Omega.{arith}
-use borrow.Author.Rules.{rules}
+use Rattle.std.proofs.Common.{sym, ◌∙◌, arith}
 use Rattle.table.specs.Laws.TableLaws.{ranged}
 use Rattle.table.specs.Laws.ReaderMeets.{begun, not_begun, begun_within, meets_2, meets_14, meets, whole_part}
 use Rattle.table.proofs.read_table.Goals as goal
 
 pub returns-then-not-in_range : goal.returns-then-not-in_range
 returns-then-not-in_range c =
-    meets_2
-    c.args.g
-    c.args.c
-    c.args.text.now
-    c.args.out.now
-    (sym c.sizes_in_range.ensures ∙ c.if-not-in_range.true)
+    meets_2 c.args.g c.args.c c.args.text.now c.args.out.now (sym c.in_range.ensures ∙ c.if-not-in_range.true)
 
 pub names_length-names-requires : goal.names_length-names-requires
-names_length-names-requires c = sym c.sizes_in_range.ensures ∙ c.if-not-in_range.false
+names_length-names-requires c = sym c.in_range.ensures ∙ c.if-not-in_range.false
 
 pub returns-then-names-eq0 : goal.returns-then-names-eq0
 returns-then-names-eq0 c =
-    let r = sym c.sizes_in_range.ensures ∙ c.if-not-in_range.false in
+    let r = sym c.in_range.ensures ∙ c.if-not-in_range.false in
     meets_14
     c.args.g
     c.args.c
@@ -39,33 +31,27 @@ returns-then-names-eq0 c =
 
 pub overflow_add-w : goal.overflow_add-w
 overflow_add-w c =
-    let a = ranged _ _ (sym c.sizes_in_range.ensures ∙ c.if-not-in_range.false) in
-    search rules
+    let a = ranged _ _ (sym c.in_range.ensures ∙ c.if-not-in_range.false) in
+    omega arith
 
 pub slice_bounds-read_lines-count : goal.slice_bounds-read_lines-count
 slice_bounds-read_lines-count c =
     begun_within
-    (begun
-    (sym c.sizes_in_range.ensures ∙ c.if-not-in_range.false)
-    c.names_length-names.ensures
-    c.if-names-eq0.false)
+    (begun (sym c.in_range.ensures ∙ c.if-not-in_range.false) c.names_length-names.ensures c.if-names-eq0.false)
 
 pub slice_bounds-read_lines-start : goal.slice_bounds-read_lines-start
 slice_bounds-read_lines-start c =
     begun_within
-    (begun
-    (sym c.sizes_in_range.ensures ∙ c.if-not-in_range.false)
-    c.names_length-names.ensures
-    c.if-names-eq0.false)
+    (begun (sym c.in_range.ensures ∙ c.if-not-in_range.false) c.names_length-names.ensures c.if-names-eq0.false)
 
 pub read_lines-requires : goal.read_lines-requires
 read_lines-requires c =
-    let a = ranged _ _ (sym c.sizes_in_range.ensures ∙ c.if-not-in_range.false) in
+    let a = ranged _ _ (sym c.in_range.ensures ∙ c.if-not-in_range.false) in
     omega arith
 
 pub returns : goal.returns
 returns c =
-    let r = sym c.sizes_in_range.ensures ∙ c.if-not-in_range.false in
+    let r = sym c.in_range.ensures ∙ c.if-not-in_range.false in
     meets
     {g = c.args.g}
     {c = c.args.c}
