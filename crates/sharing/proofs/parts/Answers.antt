@@ -1,7 +1,6 @@
 -- `sharing::parts` is the table of the parts: what the figures passed bear together is the running share, and never more than the whole. Assumes nothing.
-use Prim.Native.Nat.{◌-◌}
 use Rattle.lists.specs.Laws.TablesLaws.{fill_done}
-use Rattle.sharing.specs.Laws.ShareLaws.{Sharing, sharing_start, next_le, product_le, share_le, share_rises, sharing_step, sharing_skip}
+use Rattle.sharing.specs.Laws.ShareLaws.{sharing_start, next_le, product_le, share_le, share_rises, sharing_step, sharing_skip}
 use native.Mathlib.Omega.{arith}
 use borrow.Author.Rules.{rules}
 use Rattle.sharing.proofs.parts.Goals as goal
