@@ -1,13 +1,5 @@
-pub mod BlockLaws
-pub mod BlockClasses
-pub mod BlockRefusals
-pub mod BlockRoom
-pub mod BlockSettleable
-pub mod BlockAccepted
-pub mod DeliveryLaws
 pub mod Deliverable
 pub mod DeliveredIn
-pub mod SettlementLaws
 pub mod Settleable
-pub mod BlockBeyond
 pub mod OutputPlaces
+pub mod BlockRefusals

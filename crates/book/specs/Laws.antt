@@ -1,3 +1,1 @@
-pub mod Demand3Proof
 pub mod HoursCases
-pub mod BenchCases

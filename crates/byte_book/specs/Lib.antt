@@ -1,3 +1,2 @@
 pub mod ByteTrace
 pub mod ByteDemand3
-pub mod Laws

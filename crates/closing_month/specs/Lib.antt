@@ -1,2 +1,1 @@
 pub mod Month
-pub mod Laws

@@ -1,4 +1,3 @@
 pub mod Drawing
 pub mod Closing
 pub mod FormerClosing
-pub mod Laws

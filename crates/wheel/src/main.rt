@@ -1,10 +1,12 @@
 // Program `wheel`: prints what `report` gives for standard input. One byte past 64 KiB is enough to tell that the input is too long.
 #![tactic(auto)]
 
+ghost use Rattle.std.specs.Prelude.{◌≤◌, IfOk, length};
 ghost use Rattle.wheel_rules.specs.Display.{account_text, display};
 ghost use Rattle.wheel_print.specs.Printing.{Shows};
 
-use libc::{STDIN_FILENO, STDOUT_FILENO};
+use std::io;
+use std::io::Write;
 use table::Read;
 use wheel_print::Printed;
 
@@ -33,11 +35,26 @@ fn report(text: &[u8]) -> Printed
     }
 }
 
-fn main() {
+// Reads until text is full or the input ends, and returns how many bytes it put at the start of text.
+fn read_full<R: io::Read>(reader: &mut R, text: &mut [u8]) -> io::Result<usize>
+    ensures { IfOk result (λ n. n ≤ length text.new) }
+{
+    let mut filled: usize = 0;
+    while filled < text.len() {
+        let count = reader.read(&mut text[filled..])?;
+        if count == 0 {
+            return Ok(filled);
+        }
+        filled += count;
+    }
+    Ok(filled)
+}
+
+fn main(rt: HostRuntime) -> io::Result<()> {
     let mut text = [0u8; 65_537];
-    let n = io::read_full(STDIN_FILENO, &mut text);
+    let n = read_full(&mut rt.stdin(), &mut text)?;
     let printed = report(&text[..n]);
     let bytes = printed.bytes;
     let size = printed.size;
-    io::write_all(STDOUT_FILENO, &bytes[..size]);
+    rt.stdout().write_all(&bytes[..size])
 }

@@ -15,5 +15,5 @@ pub loop-g-preserved : goal.loop-g-preserved
 loop-g-preserved c = read_step c.loop-g.invariant (search rules) c.wide.ensures
 
 pub returns : goal.returns
-returns c = let s = c.before.before.before in let a = s.args in
-    read_done _ c.loop-g.invariant (search rules) (λ j l. sym (cell_in a.n 3 a.list.now j a.k l s.requires.third)) (λ j l. cell_out a.n 3 a.list.now j a.k (inl l))
+returns c = let a = c.args in
+    read_done _ c.loop-g.invariant (search rules) (λ j l. sym (cell_in a.n 3 a.list.now j a.k l c.requires.third)) (λ j l. cell_out a.n 3 a.list.now j a.k (inl l))

@@ -13,8 +13,7 @@ pub loop-g-init : goal.loop-g-init
 loop-g-init c = look_start
 
 pub loop-g-preserved : goal.loop-g-preserved
-loop-g-preserved c = let s = c.before.before.before.before.before in
-    look_step c.loop-g.invariant (search rules) (ap (ltb s.args.most) (c.wide-x.ensures ∙ sym (cell_in _ 3 _ _ _ (search rules) s.requires.third)))
+loop-g-preserved c = look_step c.loop-g.invariant (search rules) (ap (ltb c.args.most) (c.wide-x.ensures ∙ sym (cell_in _ 3 _ _ _ (search rules) c.requires.third)))
 
 pub returns : goal.returns
 unfolding column_over

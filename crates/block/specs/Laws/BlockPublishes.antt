@@ -10,8 +10,8 @@ use Rattle.record.specs.declared.Answer.{Answer}
 use Rattle.block_rules.specs.Settlement.{remainder, block_output}
 use Rattle.block_rules.specs.Block.{pending_added, adds_to, generator_after_block, consumer_after_block, after_block, block_rule, Blocked}
 use Rattle.block_rules.specs.Laws.OutputPlaces.{output_back}
-use Rattle.block_rules.specs.Laws.BlockLaws.{block_keeps}
-use Rattle.block_rules.specs.Laws.BlockClasses.{class_after}
+use Rattle.block_rules.proofs.BlockLaws.{block_keeps}
+use Rattle.block_rules.proofs.BlockClasses.{class_after}
 use Rattle.block.specs.BlockAnswer.{underdrawn_in, remainder_in}
 use Rattle.block.specs.Laws.Published.{pending_given, open_given, Published}
 

@@ -16,7 +16,7 @@ use Rattle.record_layout.specs.Laws.RecordHead.{HeadRead}
 use Rattle.record_layout.specs.OnBytes.{record_in, CalledOn, plan_in, book_in}
 use Rattle.record_layout.specs.Laws.OnBytesLaws.{on_accepted, on_refused}
 use Rattle.block_rules.specs.Block.{after_block, entry_of, exit_of, block_rule}
-use Rattle.block_rules.specs.Laws.BlockAccepted.{facts, enterable, generators_few, consumers_few, entry_size, exit_size, output_size, orderable_here, deliverable}
+use Rattle.block_rules.proofs.BlockAccepted.{facts, enterable, generators_few, consumers_few, entry_size, exit_size, output_size, orderable_here, deliverable}
 use Rattle.block_delivery.specs.Laws.DeliveryLent.{entries_in, Ready}
 use Rattle.block_settlement.specs.Laws.SettlementLent.{exits_in, Ranked}
 use Rattle.block_totals.specs.Laws.BlockTotals.{Settled}

@@ -19,7 +19,7 @@ fill_loss-requires c =
 pub fill_gap-requires : goal.fill_gap-requires
 fill_gap-requires c =
     let r = c.requires.0 in
-    (limited r, (search rules, (exact_here r.deliverable r.n_is r.m_is c.share_rows.ensures.1 c.fill_loss.ensures.1, omega (arith, c.fill-gap-arg))))
+    (limited r, (search rules, (exact_here r.deliverable r.n_is r.m_is c.share_rows.ensures.1 c.fill_loss.ensures.1, omega (arith, c.fill_gap-arg-1))))
 
 pub returns : goal.returns
 returns c =

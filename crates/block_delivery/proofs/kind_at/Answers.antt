@@ -5,4 +5,4 @@ use Rattle.block_delivery.specs.Laws.DeliveryLentLaws.{kind_at}
 use Rattle.block_delivery.proofs.kind_at.Goals as goal
 
 pub returns : goal.returns
-returns c = let s = c.before.before in c.number_at.ensures ∙ sym (kind_at s.args.s.now s.args.g (search rules))
+returns c = c.number_at.ensures ∙ sym (kind_at c.args.s.now c.args.g (search rules))

@@ -10,7 +10,7 @@ use Rattle.lists.specs.Laws.TablesLaws.{Filling, fill_start, fill_step, fill_len
 use Rattle.lists.specs.Laws.PairsLaws.{place_in}
 use Rattle.record.specs.Plan.{Plan}
 use Rattle.block_rules.specs.Delivery.{counted, unaccounted, part_of}
-use Rattle.block_rules.specs.Laws.DeliveryLaws.{counted_le}
+use Rattle.block_rules.proofs.DeliveryLaws.{counted_le}
 use Rattle.record_layout.specs.OnBytes.{plan_in}
 use Rattle.block_delivery.specs.Laws.DeliveryLent.{entries_in}
 use Rattle.block_delivery.specs.Laws.DeliveryRowLaws.{kw_high, scheduled_low, counted_here, parts_here}

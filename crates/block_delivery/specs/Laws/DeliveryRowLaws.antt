@@ -15,7 +15,7 @@ use Rattle.sharing.specs.Share.{part, shared}
 use Rattle.sharing.specs.Laws.ShareLaws.{part_wide, shared_within}
 use Rattle.record.specs.Plan.{Plan, deemed, scheduled}
 use Rattle.block_rules.specs.Delivery.{counted_of, counted, part_of, delivered, scheduled_at_exit, at_exit}
-use Rattle.block_rules.specs.Laws.DeliveryLaws.{counted_le, delivered_le}
+use Rattle.block_rules.proofs.DeliveryLaws.{counted_le, delivered_le}
 use Rattle.block_rules.specs.Laws.Deliverable.{Deliverable}
 use Rattle.block_figures.specs.Laws.Gap.{gap_of}
 use Rattle.block_delivery.specs.Laws.DeliveryRows.{gap_at}

@@ -7,16 +7,14 @@ use Rattle.block_figures.proofs.gap.Goals as goal
 
 pub returns-then-kind-eq0 : goal.returns-then-kind-eq0
 returns-then-kind-eq0 c =
-    let s = c.before.before.before.before in
-    omega (arith, gap_scheduled s.args.kind s.args.scheduled.0 s.args.rate s.args.delivered (omega arith))
+    omega (arith, gap_scheduled c.args.kind c.args.scheduled.0 c.args.rate c.args.delivered (omega arith))
 
 pub overflow_sub-result : goal.overflow_sub-result
 overflow_sub-result c =
-    let s = c.before.before.before.before in
-    omega (arith, loss_le s.args.scheduled.0 s.args.rate (omega arith))
+    omega (arith, loss_le c.args.scheduled.0 c.args.rate (omega arith))
 
 pub overflow_sub-result-then-kind-eq0 : goal.overflow_sub-result-then-kind-eq0
-overflow_sub-result-then-kind-eq0 c = let s = c.before.before.before.before in omega (arith, s.requires.1 (omega arith))
+overflow_sub-result-then-kind-eq0 c = omega (arith, c.requires.1 (omega arith))
 
 pub returns : goal.returns
 returns c = gap_deemed _ _ _ _ (λ z. omega arith)

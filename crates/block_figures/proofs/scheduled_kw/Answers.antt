@@ -10,27 +10,19 @@ use Rattle.lists.specs.Sums as sums
 use Rattle.lists.specs.Sums.{sum}
 use Rattle.lists.specs.Laws.SumsLaws.{sum_none, sum_more, sum_to}
 use Rattle.block_figures.proofs.scheduled_kw.Goals as goal
-use Rattle.block_figures.proofs.scheduled_kw.Goals.{In-loop-c}
-
--- the sum with consumer c, as the code has it
-sum_next :
-    (c : In-loop-c) →
-    c.loop-c.sum + get_or c.args.row c.loop-c.c 0 ≡ sum (c.loop-c.c + 1) (place 16 c.args.row)
-sum_next c =
-    let row = c.args.row in
-    let i = c.loop-c.c in
-    omega (arith, sum_more i (place 16 row), place_in 16 row i (omega arith))
 
 pub loop-c-init : goal.loop-c-init
 loop-c-init c = (search rules, sym (sum_none _))
 
 pub overflow_add-sum : goal.overflow_add-sum
-overflow_add-sum c = omega (arith, sum_next c, sum_to (c.loop-c.c + 1) 16 (place 16 c.args.row) (omega arith))
+overflow_add-sum c =
+    let sum_next : c.loop-c.sum + get_or c.args.row c.loop-c.c 0 ≡ sum (c.loop-c.c + 1) (place 16 c.args.row) = let row = c.args.row in let i = c.loop-c.c in omega (arith, sum_more i (place 16 row), place_in 16 row i (omega arith)) in
+    omega (arith, sum_next, sum_to (c.loop-c.c + 1) 16 (place 16 c.args.row) (omega arith))
 
 pub loop-c-preserved : goal.loop-c-preserved
-loop-c-preserved c = (search rules, sum_next c)
+loop-c-preserved c =
+    let sum_next : c.loop-c.sum + get_or c.args.row c.loop-c.c 0 ≡ sum (c.loop-c.c + 1) (place 16 c.args.row) = let row = c.args.row in let i = c.loop-c.c in omega (arith, sum_more i (place 16 row), place_in 16 row i (omega arith)) in
+    (search rules, sum_next)
 
 pub returns : goal.returns
-returns c =
-    let l = c.before in
-    l.loop-c.invariant.1 ∙ ap (λ (k : ℕ). sum k (place 16 l.args.row)) (omega arith)
+returns c = c.loop-c.invariant.1 ∙ ap (λ (k : ℕ). sum k (place 16 c.args.row)) (omega arith)

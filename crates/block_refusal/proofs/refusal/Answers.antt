@@ -8,21 +8,20 @@ use borrow.Author.Rules.{rules}
 use Rattle.block_refusal.proofs.refusal.Goals as goal
 
 pub overflow_mul-n : goal.overflow_mul-n
-overflow_mul-n c = let p = c.before.before in omega (arith, mul-le-mul p.requires.0 p.requires.1)
+overflow_mul-n c = omega (arith, mul-le-mul c.requires.0 c.requires.1)
 
 pub overflow_mul-n-2 : goal.overflow_mul-n-2
-overflow_mul-n-2 c = let p = c.before.before in omega (arith, mul-le-mul p.requires.0 p.requires.1)
+overflow_mul-n-2 c = omega (arith, mul-le-mul c.requires.0 c.requires.1)
 
 pub overflow_add-n : goal.overflow_add-n
-overflow_add-n c = let p = c.before.before in omega (arith, mul-le-mul p.requires.0 p.requires.1)
+overflow_add-n c = omega (arith, mul-le-mul c.requires.0 c.requires.1)
 
 pub overflow_add-n-2 : goal.overflow_add-n-2
-overflow_add-n-2 c = let p = c.before.before in omega (arith, mul-le-mul p.requires.0 p.requires.1)
+overflow_add-n-2 c = omega (arith, mul-le-mul c.requires.0 c.requires.1)
 
 pub returns-then-entry-n : goal.returns-then-entry-n
 unfolding block_length
-returns-then-entry-n c = let tested = c.before.before.before.before.before in
-    number_fit _ _ _ _ _ _ _ tested.if-entry-n.true tested.any_over.ensures tested.any_over-then-entry-n.ensures
+returns-then-entry-n c = number_fit _ _ _ _ _ _ _ c.if-entry-n.true c.any_over.ensures c.any_over-then-entry-n.ensures
     c.first-unit_full.ensures c.first-month_full.ensures c.first.ensures
 
 pub returns-else-entry-n : goal.returns-else-entry-n

@@ -7,15 +7,12 @@ use Rattle.block_settlement.proofs.put_settled.Goals as goal
 
 pub returns : goal.returns
 returns c =
-    let second = c.before.before in
-    let first = second.before.before.before.before in
-    let start = first.before.before.before in
-    let a = start.args in
+    let a = c.args in
     let size = a.n * a.m in
-    let p = start.requires in
-    let set_off = column_lent a.n a.m size (2 * size) a.c (omega arith) p.1.1.1 (omega (arith, p.0)) (put_now first.put_column.ensures) in
+    let p = c.requires in
+    let set_off = column_lent a.n a.m size (2 * size) a.c (omega arith) p.1.1.1 (omega (arith, p.0)) (put_now c.put_column.ensures) in
     record {
       mid = _;
       setoff_put = set_off;
-      shortfall_put = column_lent a.n a.m (3 * size) (4 * size) a.c (omega arith) p.1.1.1 (omega (arith, p.0, set_off.size)) (put_now second.put_column-2.ensures);
+      shortfall_put = column_lent a.n a.m (3 * size) (4 * size) a.c (omega arith) p.1.1.1 (omega (arith, p.0, set_off.size)) (put_now c.put_column-2.ensures);
     }

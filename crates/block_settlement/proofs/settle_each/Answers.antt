@@ -19,18 +19,15 @@ loop-c-init c =
 
 pub loop-c-preserved : goal.loop-c-preserved
 loop-c-preserved c =
-    let one = c.before.before in
-    let turn = one.before.before.before.before in
-    let l = turn.loop-c in
-    let start = turn.before.before.before.before.before in
-    let s = start.args.s.now in
-    let ranked = start.requires.0 in
-    let inside : l.c < (plan_in s).C = omega (arith, turn.loop-c-test.true, ranked.m_is) in
-    let within : l.c < length l.rests = omega (arith, turn.loop-c-test.true, ranked.m_high, l.invariant.1.1.1) in
-    let read = one.wide.ensures ∙ sym (place_in (plan_in s).C start.args.exit.now l.c inside) in
-    let done = one.settle_one.ensures in (
+    let l = c.loop-c in
+    let s = c.args.s.now in
+    let ranked = c.requires.0 in
+    let inside : l.c < (plan_in s).C = omega (arith, c.loop-c-test.true, ranked.m_is) in
+    let within : l.c < length l.rests = omega (arith, c.loop-c-test.true, ranked.m_high, l.invariant.1.1.1) in
+    let read = c.wide.ensures ∙ sym (place_in (plan_in s).C c.args.exit.now l.c inside) in
+    let done = c.settle_one.ensures in (
       λ E d. let both = done E _ read (l.invariant.0 E d).0 in (both.0, one_remainder _ E _ (l.invariant.0 E d).1 within both.1),
-      (omega (arith, turn.loop-c-test.true), (one.settle_one.auto.out ∙ l.invariant.1.1.0, simp length-set l.invariant.1.1.1)),
+      (omega (arith, c.loop-c-test.true), (c.settle_one.auto.out ∙ l.invariant.1.1.0, simp length-set l.invariant.1.1.1)),
     )
 
 pub returns : goal.returns

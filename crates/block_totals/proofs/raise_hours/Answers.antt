@@ -2,7 +2,7 @@
 use native.Mathlib.Omega.{arith}
 use borrow.Author.Rules.{rules}
 use Rattle.record.specs.Hours.{slot_after}
-use Rattle.block_rules.specs.Laws.BlockClasses.{class_few}
+use Rattle.block_rules.proofs.BlockClasses.{class_few}
 use Rattle.block_totals.specs.Laws.BlockTotalsLaws.{among, class_raised_lem, no_class_raised}
 use Rattle.record_places.specs.RecordSize.{words_in}
 use Rattle.block_totals.proofs.raise_hours.Goals as goal

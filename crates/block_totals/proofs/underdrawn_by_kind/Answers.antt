@@ -6,10 +6,8 @@ use Rattle.block_totals.proofs.underdrawn_by_kind.Goals as goal
 
 pub returns-then-banked-deemed : goal.returns-then-banked-deemed
 returns-then-banked-deemed c =
-    let read = c.before.before in
-    c.row_sum.ensures ∙ rw (← read.number_at-banked.ensures) (sym (kind_asked read.args.deemed read.number_at-banked.result _ c.if-banked-deemed.true))
+    c.row_sum.ensures ∙ rw (← c.number_at-banked.ensures) (sym (kind_asked c.args.deemed c.number_at-banked.result _ c.if-banked-deemed.true))
 
 pub returns : goal.returns
 returns c =
-    let read = c.before in
-    rw (← read.number_at-banked.ensures) (sym (kind_not_asked read.args.deemed read.number_at-banked.result _ c.if-banked-deemed.false))
+    rw (← c.number_at-banked.ensures) (sym (kind_not_asked c.args.deemed c.number_at-banked.result _ c.if-banked-deemed.false))

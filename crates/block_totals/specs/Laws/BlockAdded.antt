@@ -8,7 +8,7 @@ use Rattle.block_rules.specs.Delivery.{loss_of}
 use Rattle.block_rules.specs.Settlement.{underdrawn}
 use Rattle.block_rules.specs.Block.{underdrawn_sum}
 use Rattle.block_rules.specs.Laws.Settleable.{Settleable}
-use Rattle.block_rules.specs.Laws.BlockBeyond.{underdrawn_beyond}
+use Rattle.block_rules.proofs.BlockBeyond.{underdrawn_beyond}
 use Rattle.block_rules.specs.Laws.OutputPlaces.{Output}
 use Rattle.record_runs.specs.Laws.Raise.{row_sum, column_sum}
 use Rattle.block_totals.specs.Laws.BlockTotals.{by_kind}

@@ -19,7 +19,7 @@ use Rattle.record.specs.Plan.{Plan, deemed}
 use Rattle.block_rules.specs.Delivery.{unaccounted, loss_of}
 use Rattle.block_rules.specs.Settlement.{set_off, shortfall, remainder, block_output}
 use Rattle.block_rules.specs.Laws.Settleable.{Settleable}
-use Rattle.block_rules.specs.Laws.BlockBeyond.{loss_beyond, set_off_beyond, shortfall_beyond, unaccounted_beyond, remainder_beyond}
+use Rattle.block_rules.proofs.BlockBeyond.{loss_beyond, set_off_beyond, shortfall_beyond, unaccounted_beyond, remainder_beyond}
 use Rattle.block_rules.specs.Laws.OutputPlaces.{Output, output_back}
 use Rattle.record.specs.Stored.{generator_at, consumer_at, class_at, hours_of, plan_of, figures, stored_generators, stored_consumers, stored_stocks, stored}
 use Rattle.record.specs.Hours.{classes, slot_after, class_of_slot, hours_apply}
@@ -36,10 +36,10 @@ use Rattle.record_layout.specs.Laws.LayoutLaws.{bytes_of_record}
 use Rattle.record_layout.specs.Laws.FigurePlaces.{kind_place, switch_places}
 use Rattle.record_layout.specs.Laws.RecordKept.{changed_record, record_shape, numbers_low}
 use Rattle.block_rules.specs.Block.{pending_added, inadvertent_added, class_of_block, adds_to, generator_after_block, consumer_after_block, class_after_block, after_block, block_length, entry_of, exit_of}
-use Rattle.block_rules.specs.Laws.BlockLaws.{Enterable}
-use Rattle.block_rules.specs.Laws.BlockClasses.{class_few}
-use Rattle.block_rules.specs.Laws.BlockSettleable.{settleable}
-use Rattle.block_rules.specs.Laws.BlockRoom.{output_moderate}
+use Rattle.block_rules.proofs.BlockLaws.{Enterable}
+use Rattle.block_rules.proofs.BlockClasses.{class_few}
+use Rattle.block_rules.proofs.BlockSettleable.{settleable}
+use Rattle.block_rules.proofs.BlockRoom.{output_moderate}
 use Rattle.record_layout.specs.OnBytes.{book_in, record_in}
 use Rattle.record_runs.specs.Laws.Raise.{row_sum, column_sum, Raisable}
 use Rattle.block_totals.specs.Laws.BlockTotals.{four_raised, five_raised, generators_raised, consumers_raised, counts_raised, class_numbers, stocks_raised, hours_raised, BlockLists, Settled}

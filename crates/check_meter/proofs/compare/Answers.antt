@@ -12,6 +12,4 @@ scan-found-requires c = both_of_96 c.if-main-check.false
 
 pub returns : goal.returns
 returns c =
-    let numbered = c.before in
-    let passed = numbered.before in
-    c.tell-2.ensures ∙ compared _ _ _ passed.if-main-check.false passed.scan-found.ensures numbered.first-number.ensures
+    c.tell-2.ensures ∙ compared _ _ _ c.if-main-check.false c.scan-found.ensures c.first-number.ensures

@@ -5,27 +5,20 @@ use Rattle.check_meter.proofs.day.Goals as goal
 
 pub returns-then-both-ne0 : goal.returns-then-both-ne0
 returns-then-both-ne0 c =
-    let found = c.before in
-    none_handed _ _ _ found.compare-both.ensures found.if-both-ne0.true
+    none_handed _ _ _ c.compare-both.ensures c.if-both-ne0.true
 
 pub slice_bounds-result-end-then-both : goal.slice_bounds-result-end-then-both
 slice_bounds-result-end-then-both c =
-    let accepted = c.before.before in
-    check_part _ _ _ accepted.compare-both.ensures accepted.if-both-ne0.false
+    check_part _ _ _ c.compare-both.ensures c.if-both-ne0.false
 
 pub returns-then-both : goal.returns-then-both
 returns-then-both c =
-    let used = c.before in
-    let accepted = used.before in
-    check_handed _ _ _ accepted.compare-both.ensures accepted.if-both-ne0.false used.if-both.true
+    check_handed _ _ _ c.compare-both.ensures c.if-both-ne0.false c.if-both.true
 
 pub slice_bounds-result-end-2 : goal.slice_bounds-result-end-2
 slice_bounds-result-end-2 c =
-    let accepted = c.before.before in
-    main_part _ _ _ accepted.compare-both.ensures accepted.if-both-ne0.false
+    main_part _ _ _ c.compare-both.ensures c.if-both-ne0.false
 
 pub returns : goal.returns
 returns c =
-    let used = c.before in
-    let accepted = used.before in
-    main_handed _ _ _ accepted.compare-both.ensures accepted.if-both-ne0.false used.if-both.false
+    main_handed _ _ _ c.compare-both.ensures c.if-both-ne0.false c.if-both.false

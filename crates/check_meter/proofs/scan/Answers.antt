@@ -6,17 +6,14 @@ use borrow.Author.Rules.{rules}
 use Rattle.check_meter.specs.CheckMeter.{day_blocks}
 use Rattle.check_meter.specs.Laws.DaysScanned.{one_at_most, Scanning, scan_start, scan_step, scan_done}
 use Rattle.check_meter.proofs.scan.Goals as goal
-use Rattle.check_meter.proofs.scan.Goals.{After-first-apart}
 
 pub loop-i-init : goal.loop-i-init
 loop-i-init c = scan_start
 
--- what is added is 1 at most
-low : (c : After-first-apart) → c.first-apart.result ≤ 1
-low c = rw c.first-apart.ensures (one_at_most c.further_apart.result)
-
 pub overflow_add-apart : goal.overflow_add-apart
-overflow_add-apart c = omega (arith, low c, c.loop-i.invariant.counted.cap)
+overflow_add-apart c =
+    let low : c.first-apart.result ≤ 1 = rw c.first-apart.ensures (one_at_most c.further_apart.result) in
+    omega (arith, low, c.loop-i.invariant.counted.cap)
 
 pub loop-i-preserved : goal.loop-i-preserved
 loop-i-preserved c = scan_step c.loop-i.invariant c.loop-i-test.true refl refl c.further_apart.ensures c.first-apart.ensures

@@ -4,4 +4,4 @@ use Rattle.class_bank.specs.Laws.Serving.{gave_made}
 use Rattle.class_bank.proofs.give.Goals as goal
 
 pub returns : goal.returns
-returns c = let start = c.before.before in gave_made start.requires.0 start.requires.1 c.least-x.ensures
+returns c = gave_made c.requires.0 c.requires.1 c.least-x.ensures

@@ -16,7 +16,7 @@ use Rattle.energy.specs.Laws.EnergyLaws.{portion_le}
 use Rattle.order.specs.Laws.KeptOrder.{turns_of}
 use Rattle.record.specs.Hours.{classes}
 use Rattle.closing_rules.specs.Drawing.{stock_at, missing_at}
-use Rattle.closing_rules.specs.Laws.DrawingLaws.{stock_most}
+use Rattle.closing_rules.proofs.DrawingLaws.{stock_most}
 use Rattle.closing_rules.specs.Closing.{sources_of}
 use Rattle.bank.specs.Laws.CreditLaws.{charge_at, credit_at, Crediting, limits_kept}
 use Rattle.class_bank.specs.declared.ClassBank.{ClassBank}

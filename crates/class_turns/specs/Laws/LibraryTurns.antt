@@ -14,9 +14,9 @@ use Rattle.record.specs.Book.{Book}
 use Rattle.record.specs.Laws.SoundLaws.{Facts}
 use Rattle.closing_rules.specs.Drawing.{stock_at}
 use Rattle.closing_rules.specs.Closing.{turn, stocks_of, serving, stock, want, supplied_of, supplied}
-use Rattle.closing_rules.specs.Laws.DrawingLaws.{stock_stays}
-use Rattle.closing_rules.specs.Laws.ClosingLaws.{open_total_lem}
-use Rattle.closing_rules.specs.Laws.ClosingBeyond.{open_beyond}
+use Rattle.closing_rules.proofs.DrawingLaws.{stock_stays}
+use Rattle.closing_rules.proofs.ClosingLaws.{open_total_lem}
+use Rattle.closing_rules.proofs.ClosingBeyond.{open_beyond}
 use Rattle.class_bank.specs.declared.ClassBank.{ClassBank}
 use Rattle.closing_by_hours.specs.Laws.HoursDrawing.{Drawn}
 use Rattle.class_turns.specs.Laws.TurnsSettled.{TurnsSettled}

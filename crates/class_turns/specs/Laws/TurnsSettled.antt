@@ -10,7 +10,7 @@ use Rattle.record.specs.Plan.{suppliers}
 use Rattle.record.specs.Book.{Book}
 use Rattle.closing_rules.specs.Drawing.{stock_at, missing_at}
 use Rattle.closing_rules.specs.Closing.{turn, sources_of, stocks_of, serving, stock, want}
-use Rattle.closing_rules.specs.Laws.ClosingLaws.{serving_at, want_at}
+use Rattle.closing_rules.proofs.ClosingLaws.{serving_at, want_at}
 use Rattle.class_bank.specs.Laws.Serving.{Served}
 
 module _ (b : Book) where

@@ -1,7 +1,7 @@
 -- `closing::close` meets its contract: the call on the record's bytes is the call on the record.
 use mathlib.Core.Path.{refl, sym, ◌∙◌}
 use Rattle.record_layout.specs.Laws.OnBytesLaws.{on_struct}
-use Rattle.closing_rules.specs.Laws.ClosingLaws.{closing_keeps}
+use Rattle.closing_rules.proofs.ClosingLaws.{closing_keeps}
 use Rattle.closing.proofs.close.Goals as goal
 
 pub slice_bounds-store-end : goal.slice_bounds-store-end
@@ -18,21 +18,15 @@ close_on-number-requires c = c.store.auto.s
 
 pub slice_bounds-load-end : goal.slice_bounds-load-end
 slice_bounds-load-end c =
-    let closed = c.before.before.before.before in
-    let filled = closed.before.before.before.before in
-    sym (closed.close_on-number.auto.s ∙ filled.store.auto.s)
+    sym (c.close_on-number.auto.s ∙ c.store.auto.s)
 
 pub load-after-requires : goal.load-after-requires
 load-after-requires c =
-    let closed = c.before.before.before.before in
-    let filled = closed.before.before.before.before in
-    closed.close_on-number.auto.s ∙ filled.store.auto.s
+    c.close_on-number.auto.s ∙ c.store.auto.s
 
 pub shape_of-out : goal.shape_of-out
 shape_of-out c = c.close_on-number.auto.out
 
 pub returns : goal.returns
 returns c =
-    let closed = c.before.before.before.before.before in
-    let filled = closed.before.before.before.before in
-    on_struct _ _ (closing_keeps _) filled.store.ensures.1 c.load-after.ensures closed.close_on-number.ensures
+    on_struct _ _ (closing_keeps _) c.store.ensures.1 c.load-after.ensures c.close_on-number.ensures

@@ -4,7 +4,7 @@ use mathlib.Core.Path.{◌≡◌, ◌∙◌, sym}
 use borrow.Author.Rules.{rules}
 use Rattle.record.specs.Laws.CalledLaws.{number_unsound, terms_few}
 use Rattle.record.specs.Sound.{sound}
-use Rattle.closing_rules.specs.Laws.ClosingRefusals.{record_refusal}
+use Rattle.closing_rules.proofs.ClosingRefusals.{record_refusal}
 use Rattle.record_layout.specs.OnBytes.{book_in}
 use Rattle.closing.proofs.refusal_on.Goals as goal
 

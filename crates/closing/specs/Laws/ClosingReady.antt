@@ -12,7 +12,7 @@ use Rattle.record_layout.specs.Laws.RecordHead.{HeadRead}
 use Rattle.record_layout.specs.OnBytes.{record_in, CalledOn, book_in}
 use Rattle.record_layout.specs.Laws.OnBytesLaws.{on_accepted, on_refused}
 use Rattle.closing_rules.specs.Closing.{after_closing, closing_output, closing_rule}
-use Rattle.closing_rules.specs.Laws.ClosingRefusals.{facts}
+use Rattle.closing_rules.proofs.ClosingRefusals.{facts}
 use Rattle.closing_totals.specs.Laws.ClosingTotals.{Listed}
 
 pub listed : (s : List ℕ) (size : ℕ) {terms : Terms} {counts : Counts} {switch : Switch} {out : List ℕ} →

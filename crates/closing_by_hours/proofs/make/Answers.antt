@@ -40,7 +40,7 @@ overflow_mul-size c =
     let small : size ≤ 128 = mul-le-mul few narrow in
     omega (arith, small)
 
-pub slice_bounds-draw_all-end : goal.slice-bounds-draw-all-end
+pub slice_bounds-draw_all-end : goal.slice_bounds-draw_all-end
 slice_bounds-draw_all-end c =
     let size : ℕ = c.args.terms.generators * c.args.terms.consumers in
     let long : let a = c.args in length a.out.now ≡ size + (3 * a.terms.generators + 2 * a.terms.consumers) = let p = c.requires in output_long _ _ _ p.0 p.1.0 p.1.1.0 p.1.1.1 in
@@ -72,7 +72,7 @@ slice_bounds-write_sums-count c =
     let whole : length slice ≡ length c.args.out.now = written_length wrote (omega (arith, long)) in
     omega (arith, whole, long)
 
-pub slice_bounds-write_sums-start : goal.slice-bounds-write-sums-start
+pub slice_bounds-write_sums-start : goal.slice_bounds-write_sums-start
 slice_bounds-write_sums-start c =
     let size : ℕ = c.args.terms.generators * c.args.terms.consumers in
     let long : let a = c.args in length a.out.now ≡ size + (3 * a.terms.generators + 2 * a.terms.consumers) = let p = c.requires in output_long _ _ _ p.0 p.1.0 p.1.1.0 p.1.1.1 in

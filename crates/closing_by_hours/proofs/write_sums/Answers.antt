@@ -7,7 +7,5 @@ use Rattle.closing_by_hours.proofs.write_sums.Goals as goal
 
 pub returns : goal.returns
 returns c =
-    let wrote = c.before.before in
-    let second = wrote.before.before in
-    let a = second.args in
-    wrote.write_lists.ensures ∙ (λ i. five_lists (second.by_generator-charges.ensures i) (second.by_generator-lapses.ensures i) (replicate 8 0) a.outstanding a.supplied a.n a.m)
+    let a = c.args in
+    c.write_lists.ensures ∙ (λ i. five_lists (c.by_generator-charges.ensures i) (c.by_generator-lapses.ensures i) (replicate 8 0) a.outstanding a.supplied a.n a.m)

@@ -20,8 +20,8 @@ use Rattle.record_places.specs.RecordSize.{record_bytes, words_in}
 use Rattle.record_layout.specs.OnBytes.{book_in}
 use Rattle.closing_rules.specs.Drawing.{stock_at, missing_at}
 use Rattle.closing_rules.specs.Closing.{source, turn, sources_of, stocks_of, credited, serving, stock, want, drawn_of, supplied_of, drawn, supplied}
-use Rattle.closing_rules.specs.Laws.DrawingLaws as Turns
-use Rattle.closing_rules.specs.Laws.ClosingLaws.{stock_at_lem, want_at, serving_at, consumer_drawn, credited_split, consumer_split}
+use Rattle.closing_rules.proofs.DrawingLaws as Turns
+use Rattle.closing_rules.proofs.ClosingLaws.{stock_at_lem, want_at, serving_at, consumer_drawn, credited_split, consumer_split}
 use Rattle.class_bank.specs.declared.ClassBank.{ClassBank}
 use Rattle.class_bank.specs.declared.ClassDraw.{ClassDraw}
 use Rattle.class_bank.specs.Laws.ClassBankSteps.{stock_after, draw_of}

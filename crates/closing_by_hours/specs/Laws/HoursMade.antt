@@ -30,9 +30,9 @@ use Rattle.record_layout.specs.OnBytes.{record_in, book_in}
 use Rattle.record_layout.specs.Laws.Layout.{run, consumers_at}
 use Rattle.closing_rules.specs.Drawing.{stock_at}
 use Rattle.closing_rules.specs.Closing.{lapse_due, source, stocks_of, taken_up, charge_of, credited, serving, stock, want, bank_left, charge, drawn, supplied, bank_before_lapse, lapses, lapsed, bank_after, closing_lists, closing_output, closing_rule}
-use Rattle.closing_rules.specs.Laws.ClosingLaws.{bank_total_lem, pending_total_lem, credited_split, all_drawn}
-use Rattle.closing_rules.specs.Laws.ClosingBeyond.{bank_beyond, pending_beyond}
-use Rattle.closing_rules.specs.Laws.ClosingRefusals.{facts, generators_few, consumers_few, output_size}
+use Rattle.closing_rules.proofs.ClosingLaws.{bank_total_lem, pending_total_lem, credited_split, all_drawn}
+use Rattle.closing_rules.proofs.ClosingBeyond.{bank_beyond, pending_beyond}
+use Rattle.closing_rules.proofs.ClosingRefusals.{facts, generators_few, consumers_few, output_size}
 use Rattle.bank.specs.Laws.CreditLaws.{charge_at, credit_at}
 use Rattle.class_bank.specs.Laws.ClassBankSteps.{credit_of, creditable, credit_answer}
 use Rattle.class_bank.specs.Laws.ClassBankLaws.{creditable_so, credit_within}

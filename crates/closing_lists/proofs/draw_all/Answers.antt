@@ -22,7 +22,7 @@ suppliers_at-suppliers-requires i =
 pub put_column-requires : goal.put_column-requires
 put_column-requires c =
     let p = c.requires.1.0 in
-    (c.loop-c.inv.0.drawn_is.size, (p.G_high, (p.C_high, c.loop-c-test.true)))
+    (c.loop-c.invariant.0.drawn_is.size, (p.G_high, (p.C_high, c.loop-c-test.true)))
 
 pub loop-c-preserved : goal.loop-c-preserved
 loop-c-preserved c =
@@ -31,7 +31,7 @@ loop-c-preserved c =
     let p = c.requires.1.0 in
     let gs = c.suppliers_at-suppliers.ensures in
     let turn = rw gs.0 at (c.draw-turn.ensures ∙ draw_within _ _ _ _ gs.1) in (
-      drawing_step _ _ _ _ _ c.loop-c-test.true p.C_high p.G_high c.loop-c.inv.0 (sym (place_in 16 _ _ within)) turn c.put_column.ensures,
+      drawing_step _ _ _ _ _ c.loop-c-test.true p.C_high p.G_high c.loop-c.invariant.0 (sym (place_in 16 _ _ within)) turn c.put_column.ensures,
       omega (arith, c.loop-c-test.true),
     )
 

@@ -23,7 +23,7 @@ overflow_mul-size c =
     let small : size ≤ 128 = mul-le-mul ready.G_high ready.C_high in
     omega (arith, small)
 
-pub slice_bounds-draw_all-end : goal.slice-bounds-draw-all-end
+pub slice_bounds-draw_all-end : goal.slice_bounds-draw_all-end
 slice_bounds-draw_all-end c =
     let size : ℕ = c.args.terms.generators * c.args.terms.consumers in
     let read : let a = c.args in StepsRead (record_in a.s.now) a.terms a.counts a.switch c.load8-held.result c.load8-pending.result c.load16-outstanding.result = steps_read _ c.requires.0 c.requires.1.0 c.load8-held.ensures c.load8-pending.ensures c.load16-outstanding.ensures in
@@ -57,7 +57,7 @@ slice_bounds-write_lists-count c =
     let whole : length slice ≡ length c.args.out.now = written_length wrote (omega (arith, long)) in
     omega (arith, whole, long)
 
-pub slice_bounds-write_lists-start : goal.slice-bounds-write-lists-start
+pub slice_bounds-write_lists-start : goal.slice_bounds-write_lists-start
 slice_bounds-write_lists-start c =
     let size : ℕ = c.args.terms.generators * c.args.terms.consumers in
     let read : let a = c.args in StepsRead (record_in a.s.now) a.terms a.counts a.switch c.load8-held.result c.load8-pending.result c.load16-outstanding.result = steps_read _ c.requires.0 c.requires.1.0 c.load8-held.ensures c.load8-pending.ensures c.load16-outstanding.ensures in

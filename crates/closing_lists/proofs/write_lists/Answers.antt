@@ -8,7 +8,7 @@ use borrow.Author.Rules.{rules}
 use Rattle.closing_lists.proofs.write_lists.Goals as goal
 
 pub slice_bounds-put_list-end-5 : goal.slice_bounds-put_list-end-5
-slice_bounds-put_list-end-5 c = let s = c.well-formed in search rules
+slice_bounds-put_list-end-5 c = let s = c.well_formed in search rules
 
 pub put_list-requires-5 : goal.put_list-requires-5
 put_list-requires-5 c = search rules

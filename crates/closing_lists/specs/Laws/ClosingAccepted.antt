@@ -20,8 +20,8 @@ use Rattle.bank.specs.declared.Bank.{Bank}
 use Rattle.bank.specs.declared.Credit.{Credit}
 use Rattle.bank.specs.declared.Lapse.{Lapse}
 use Rattle.closing_rules.specs.Closing.{lapse_due, lapses, closing_output, closing_rule}
-use Rattle.closing_rules.specs.Laws.FormerClosingProof.{output_before_switch}
-use Rattle.closing_rules.specs.Laws.ClosingRefusals.{facts, generators_few, consumers_few, output_size}
+use Rattle.closing_rules.proofs.FormerClosingProof.{output_before_switch}
+use Rattle.closing_rules.proofs.ClosingRefusals.{facts, generators_few, consumers_few, output_size}
 use Rattle.closing_lists.specs.Laws.Drawable.{Drawable}
 use Rattle.closing_lists.specs.Laws.DrawingSteps.{Drawn}
 use Rattle.closing_lists.specs.Laws.ClosingMonth.{output_is}

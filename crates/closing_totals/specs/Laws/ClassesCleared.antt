@@ -23,7 +23,7 @@ use Rattle.record.specs.declared.Stocks.{Stocks}
 use Rattle.record_layout.specs.Laws.NumbersRaised.{from}
 use Rattle.record_layout.specs.Laws.NumbersReplaced.{replaced, list_replaced}
 use Rattle.record_places.specs.Laws.Places.{off_peak_at, normal_at, peak_at}
-use Rattle.closing_rules.specs.Laws.ClosingBeyond.{bank_beyond, pending_beyond, open_beyond}
+use Rattle.closing_rules.proofs.ClosingBeyond.{bank_beyond, pending_beyond, open_beyond}
 use Rattle.closing_totals.specs.Laws.ClosingTotals.{class_cleared, classes_after}
 
 -- so many places of each list are cleared: by hours all that the unit has, before the switch month none

@@ -32,9 +32,9 @@ use Rattle.record_layout.specs.Laws.RecordKept.{changed_record, record_shape, nu
 use Rattle.record_layout.specs.OnBytes.{record_in, book_in}
 use Rattle.record_runs.specs.Laws.Raise.{row_sum, column_sum, Raisable}
 use Rattle.closing_rules.specs.Closing.{charge, drawn, supplied, gone_after, lapsed, bank_after, generator_after_closing, consumer_after_closing, after_closing, closing_length, closing_output}
-use Rattle.closing_rules.specs.Laws.ClosingOutput.{closing_length_lem, drawn_at_lem, charge_at_lem, lapsed_at_lem, bank_at_lem, supplied_at_lem}
-use Rattle.closing_rules.specs.Laws.ClosingBeyond.{bank_beyond, pending_beyond, charge_beyond, given_beyond, lapsed_beyond, bank_after_beyond, open_beyond, taken_beyond, supplied_beyond}
-use Rattle.closing_rules.specs.Laws.ClosingRoom.{closing_output_moderate}
+use Rattle.closing_rules.proofs.ClosingOutput.{closing_length_lem, drawn_at_lem, charge_at_lem, lapsed_at_lem, bank_at_lem, supplied_at_lem}
+use Rattle.closing_rules.proofs.ClosingBeyond.{bank_beyond, pending_beyond, charge_beyond, given_beyond, lapsed_beyond, bank_after_beyond, open_beyond, taken_beyond, supplied_beyond}
+use Rattle.closing_rules.proofs.ClosingRoom.{closing_output_moderate}
 use Rattle.closing_totals.specs.Laws.ClosingTotals.{counts_after, totals_raised, stocks_replaced, classes_after, ClosingLists, Listed}
 use Rattle.closing_totals.specs.Laws.ClassesCleared.{classes_cleared, emptied, class_cleared_lem}
 use Rattle.record_places.specs.RecordSize.{record_numbers, record_bytes, words_in}

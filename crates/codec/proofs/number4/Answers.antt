@@ -9,5 +9,4 @@ use Rattle.codec.proofs.number4.Goals as goal
 pub returns : goal.returns
 unfolding table
 returns c =
-    let start = c.before.before.before.before.before.before in
-    c.join4.ensures ∙ sym (ap number (window 3 start.args.at start.args.s.now start.requires))
+    c.join4.ensures ∙ sym (ap number (window 3 c.args.at c.args.s.now c.requires))

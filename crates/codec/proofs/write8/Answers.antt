@@ -6,5 +6,4 @@ use Rattle.codec.proofs.write8.Goals as goal
 
 pub returns : goal.returns
 returns c =
-    let call = c.before.before in
-    put_all call.put8s.ensures (omega (arith, call.put8s.auto.s))
+    put_all c.put8s.ensures (omega (arith, c.put8s.auto.s))

@@ -29,17 +29,9 @@ returns-then-in_range c = is_off_peak (slot_after c.args.month) c.in_range.ensur
 pub returns-then-in_range-2 : goal.returns-then-in_range-2
 unfolding slot_after
 returns-then-in_range-2 c =
-    let third = c.before in
-    let second = third.before in
-    let other = second.before in
-    let first = other.before in
-    is_peak (slot_after first.args.month) first.in_range.ensures second.in_range-2.ensures third.in_range-3.ensures other.if-in_range.false c.if-in_range-2.true
+    is_peak (slot_after c.args.month) c.in_range.ensures c.in_range-2.ensures c.in_range-3.ensures c.if-in_range.false c.if-in_range-2.true
 
 pub returns : goal.returns
 unfolding slot_after
 returns c =
-    let third = c.before in
-    let second = third.before in
-    let other = second.before in
-    let first = other.before in
-    is_normal (slot_after first.args.month) first.in_range.ensures second.in_range-2.ensures third.in_range-3.ensures other.if-in_range.false c.if-in_range-2.false
+    is_normal (slot_after c.args.month) c.in_range.ensures c.in_range-2.ensures c.in_range-3.ensures c.if-in_range.false c.if-in_range-2.false

@@ -6,10 +6,8 @@ use Rattle.opening.proofs.opening.Goals as goal
 
 pub returns-then-number-eq0 : goal.returns-then-number-eq0
 returns-then-number-eq0 c =
-    let branch = c.before.before in
-    opened_back branch.opening_on-number.ensures branch.if-number-eq0.true c.load-after.ensures
+    opened_back c.opening_on-number.ensures c.if-number-eq0.true c.load-after.ensures
 
 pub returns-else-number-eq0 : goal.returns-else-number-eq0
 returns-else-number-eq0 c =
-    let branch = c.before in
-    opening_refused branch.if-number-eq0.false branch.opening_on-number.ensures.number_is c.zero_record-after.ensures
+    opening_refused c.if-number-eq0.false c.opening_on-number.ensures.number_is c.zero_record-after.ensures

@@ -8,15 +8,12 @@ use Rattle.opening.proofs.opening_on.Goals as goal
 
 pub store_opened-requires : goal.store_opened-requires
 store_opened-requires c =
-    let branch = c.before in
-    (accepted_permitted _ (sym branch.refusal-number.ensures ∙ branch.if-number-eq0.true), branch.requires)
+    (accepted_permitted _ (sym c.refusal-number.ensures ∙ c.if-number-eq0.true), c.requires)
 
 pub returns-then-number-eq0 : goal.returns-then-number-eq0
 unfolding bytes_after
 returns-then-number-eq0 c =
-    let call = c.before.before in
-    let branch = call.before.before in
-    record { number_is = sym (sym branch.refusal-number.ensures ∙ branch.if-number-eq0.true); record_is = call.store_opened.ensures }
+    record { number_is = sym (sym c.refusal-number.ensures ∙ c.if-number-eq0.true); record_is = c.store_opened.ensures }
 
 pub returns : goal.returns
 unfolding bytes_after

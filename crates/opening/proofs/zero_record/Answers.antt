@@ -5,8 +5,4 @@ use Rattle.opening.proofs.zero_record.Goals as goal
 
 pub returns : goal.returns
 returns c =
-    let switch = c.before in
-    let consumers = switch.before in
-    let generators = consumers.before in
-    let counts = generators.before in
-    zero_parts counts.terms_from-terms.ensures counts.first_counts-counts.ensures generators.no_injection-generators.ensures consumers.no_consumption-consumers.ensures switch.first_switch-switch.ensures c.no_stocks-stocks.ensures
+    zero_parts c.terms_from-terms.ensures c.first_counts-counts.ensures c.no_injection-generators.ensures c.no_consumption-consumers.ensures c.first_switch-switch.ensures c.no_stocks-stocks.ensures

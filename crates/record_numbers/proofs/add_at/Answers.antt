@@ -7,6 +7,5 @@ use Rattle.record_numbers.proofs.add_at.Goals as goal
 
 pub returns : goal.returns
 returns c =
-    let summed = c.before.before.before.before in
-    let a = summed.args in
-    c.put_at.ensures.0 ∙ ap (set (words_in a.s.now) a.k) summed.sum_at-sum.ensures
+    let a = c.args in
+    c.put_at.ensures.0 ∙ ap (set (words_in a.s.now) a.k) c.sum_at-sum.ensures

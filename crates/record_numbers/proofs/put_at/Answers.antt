@@ -9,5 +9,4 @@ use Rattle.record_numbers.proofs.put_at.Goals as goal
 
 pub returns : goal.returns
 returns c =
-    let start = c.before.before.before.before.before in
-    (ap (decode 8 record_numbers) c.put8.ensures ∙ decode_sets 8 record_numbers _ _ _ start.requires.1 start.requires.0 (omega arith), search rules)
+    (ap (decode 8 record_numbers) c.put8.ensures ∙ decode_sets 8 record_numbers _ _ _ c.requires.1 c.requires.0 (omega arith), search rules)

@@ -17,9 +17,8 @@ put_at-requires c = let l = c.loop-k in
     (l.invariant.1.size ∙ able.size, omega (arith, able.placed))
 
 pub loop-k-preserved : goal.loop-k-preserved
-loop-k-preserved c = let call = c.before.before in
-    let l = call.loop-k in
-    (omega arith, one_replaced l.invariant.1 refl call.put_at.auto.s call.put_at.ensures.0)
+loop-k-preserved c = let l = c.loop-k in
+    (omega arith, one_replaced l.invariant.1 refl c.put_at.auto.s c.put_at.ensures.0)
 
 pub returns : goal.returns
 returns c = all_replaced c.loop-k.invariant.1 (omega arith)

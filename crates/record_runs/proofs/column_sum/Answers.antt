@@ -13,25 +13,25 @@ pub loop-g-init : goal.loop-g-init
 loop-g-init c = sum_start
 
 pub overflow_mul-sum : goal.overflow_mul-sum
-overflow_mul-sum c = let start = c.before.before in omega (arith, row_within start.args.n start.args.m c.loop-g.g (omega arith))
+overflow_mul-sum c = omega (arith, row_within c.args.n c.args.m c.loop-g.g (omega arith))
 
 pub overflow_add-sum : goal.overflow_add-sum
-overflow_add-sum c = let start = c.before.before in omega (arith, row_within start.args.n start.args.m c.loop-g.g (omega arith))
+overflow_add-sum c = omega (arith, row_within c.args.n c.args.m c.loop-g.g (omega arith))
 
 pub overflow_add-sum-in-loop-g : goal.overflow_add-sum-in-loop-g
-overflow_add-sum-in-loop-g c = let start = c.before.before in omega (arith, row_within start.args.n start.args.m c.loop-g.g (omega arith))
+overflow_add-sum-in-loop-g c = omega (arith, row_within c.args.n c.args.m c.loop-g.g (omega arith))
 
 pub offset_bounds-xs-first : goal.offset_bounds-xs-first
-offset_bounds-xs-first c = let start = c.before.before in omega (arith, row_within start.args.n start.args.m c.loop-g.g (omega arith))
+offset_bounds-xs-first c = omega (arith, row_within c.args.n c.args.m c.loop-g.g (omega arith))
 
 pub bounds-xs-first : goal.bounds-xs-first
-bounds-xs-first c = let start = c.before.before.before in omega (arith, row_within start.args.n start.args.m c.loop-g.g (omega arith))
+bounds-xs-first c = omega (arith, row_within c.args.n c.args.m c.loop-g.g (omega arith))
 
 pub overflow_add-sum-in-loop-g-2 : goal.overflow_add-sum-in-loop-g-2
-overflow_add-sum-in-loop-g-2 c = let l = c.loop-g in let start = c.before.before.before in omega (arith, l.invariant.cap, start.requires.1.1.1.at (start.args.first + (l.g * start.args.m + start.args.c)))
+overflow_add-sum-in-loop-g-2 c = let l = c.loop-g in omega (arith, l.invariant.cap, c.requires.1.1.1.at (c.args.first + (l.g * c.args.m + c.args.c)))
 
 pub loop-g-preserved : goal.loop-g-preserved
-loop-g-preserved c = let l = c.loop-g in let start = c.before.before.before in sum_step l.invariant (search rules) refl (start.requires.1.1.1.at (start.args.first + (l.g * start.args.m + start.args.c)))
+loop-g-preserved c = let l = c.loop-g in sum_step l.invariant (search rules) refl (c.requires.1.1.1.at (c.args.first + (l.g * c.args.m + c.args.c)))
 
 pub returns : goal.returns
 returns c = sum_done c.loop-g.invariant (search rules)

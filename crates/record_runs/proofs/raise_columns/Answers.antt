@@ -12,20 +12,17 @@ pub loop-c-init : goal.loop-c-init
 loop-c-init c = (omega arith, none_raised)
 
 pub column_sum-requires : goal.column_sum-requires
-column_sum-requires c = let start = c.before.before.before.before.before in (start.requires.1.0, (omega arith, start.requires.1.1))
+column_sum-requires c = (c.requires.1.0, (omega arith, c.requires.1.1))
 
 pub add_at-requires : goal.add_at-requires
 add_at-requires c =
-    let at-loop = c.before.before.before in
-    let start = at-loop.before.before.before in
-    let l = at-loop.loop-c in
-    let able = start.requires.0 in
-    (l.invariant.1.size ∙ able.size, (omega (arith, able.placed), omega (arith, next_low able l.invariant.1, c.column_sum.ensures, column_cap start.args.n start.args.m start.args.first l.c start.requires.1.1.1)))
+    let l = c.loop-c in
+    let able = c.requires.0 in
+    (l.invariant.1.size ∙ able.size, (omega (arith, able.placed), omega (arith, next_low able l.invariant.1, c.column_sum.ensures, column_cap c.args.n c.args.m c.args.first l.c c.requires.1.1.1)))
 
 pub loop-c-preserved : goal.loop-c-preserved
-loop-c-preserved c = let call = c.before.before in
-    let l = call.loop-c in
-    (omega arith, one_more l.invariant.1 call.column_sum.ensures call.add_at.auto.s call.add_at.ensures)
+loop-c-preserved c = let l = c.loop-c in
+    (omega arith, one_more l.invariant.1 c.column_sum.ensures c.add_at.auto.s c.add_at.ensures)
 
 pub returns : goal.returns
 returns c = all_raised c.loop-c.invariant.1 (omega arith)

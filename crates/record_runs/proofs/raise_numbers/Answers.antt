@@ -14,16 +14,13 @@ loop-i-init c = (omega arith, none_raised)
 
 pub add_at-requires : goal.add_at-requires
 add_at-requires c =
-    let at-loop = c.before.before.before in
-    let start = at-loop.before.before.before in
-    let l = at-loop.loop-i in
-    let able = start.requires.0 in
-    (l.invariant.1.size ∙ able.size, (omega (arith, able.placed), omega (arith, next_low able l.invariant.1, start.requires.1.1.at (start.args.first + l.i))))
+    let l = c.loop-i in
+    let able = c.requires.0 in
+    (l.invariant.1.size ∙ able.size, (omega (arith, able.placed), omega (arith, next_low able l.invariant.1, c.requires.1.1.at (c.args.first + l.i))))
 
 pub loop-i-preserved : goal.loop-i-preserved
-loop-i-preserved c = let call = c.before.before in
-    let l = call.loop-i in
-    (omega arith, one_more l.invariant.1 refl call.add_at.auto.s call.add_at.ensures)
+loop-i-preserved c = let l = c.loop-i in
+    (omega arith, one_more l.invariant.1 refl c.add_at.auto.s c.add_at.ensures)
 
 pub returns : goal.returns
 returns c = all_raised c.loop-i.invariant.1 (omega arith)

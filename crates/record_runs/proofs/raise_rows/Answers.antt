@@ -13,21 +13,17 @@ loop-g-init c = (omega arith, none_raised)
 
 pub row_sum-requires : goal.row_sum-requires
 row_sum-requires c = let l = c.loop-g in
-    let start = c.before.before.before.before.before in
-    (omega (arith, start.requires.1.0, row_within start.args.n start.args.m l.g (omega arith)), start.requires.1.1)
+    (omega (arith, c.requires.1.0, row_within c.args.n c.args.m l.g (omega arith)), c.requires.1.1)
 
 pub add_at-requires : goal.add_at-requires
 add_at-requires c =
-    let at-loop = c.before.before.before in
-    let start = at-loop.before.before.before in
-    let l = at-loop.loop-g in
-    let able = start.requires.0 in
-    (l.invariant.1.size ∙ able.size, (omega (arith, able.placed), omega (arith, next_low able l.invariant.1, c.row_sum.ensures, row_cap start.args.m start.args.first l.g start.requires.1.1.1)))
+    let l = c.loop-g in
+    let able = c.requires.0 in
+    (l.invariant.1.size ∙ able.size, (omega (arith, able.placed), omega (arith, next_low able l.invariant.1, c.row_sum.ensures, row_cap c.args.m c.args.first l.g c.requires.1.1.1)))
 
 pub loop-g-preserved : goal.loop-g-preserved
-loop-g-preserved c = let call = c.before.before in
-    let l = call.loop-g in
-    (omega arith, one_more l.invariant.1 call.row_sum.ensures call.add_at.auto.s call.add_at.ensures)
+loop-g-preserved c = let l = c.loop-g in
+    (omega arith, one_more l.invariant.1 c.row_sum.ensures c.add_at.auto.s c.add_at.ensures)
 
 pub returns : goal.returns
 returns c = all_raised c.loop-g.invariant.1 (omega arith)

@@ -14,16 +14,13 @@ loop-k-init c = (omega arith, none_replaced)
 
 pub put_at-requires : goal.put_at-requires
 put_at-requires c =
-    let at-loop = c.before.before.before in
-    let start = at-loop.before.before.before in
-    let l = at-loop.loop-k in
-    let able = start.requires.0 in
+    let l = c.loop-k in
+    let able = c.requires.0 in
     (l.invariant.1.size ∙ able.size, omega (arith, able.placed))
 
 pub loop-k-preserved : goal.loop-k-preserved
-loop-k-preserved c = let call = c.before.before in
-    let l = call.loop-k in
-    (omega arith, one_replaced l.invariant.1 refl call.put_at.auto.s call.put_at.ensures.0)
+loop-k-preserved c = let l = c.loop-k in
+    (omega arith, one_replaced l.invariant.1 refl c.put_at.auto.s c.put_at.ensures.0)
 
 pub returns : goal.returns
 returns c = all_replaced c.loop-k.invariant.1 (omega arith)

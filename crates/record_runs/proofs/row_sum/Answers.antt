@@ -12,10 +12,10 @@ pub loop-c-init : goal.loop-c-init
 loop-c-init c = sum_start
 
 pub overflow_add-sum-in-loop-c-2 : goal.overflow_add-sum-in-loop-c-2
-overflow_add-sum-in-loop-c-2 c = let l = c.loop-c in let start = c.before.before.before in omega (arith, l.invariant.cap, start.requires.1.1.at (start.args.first + (start.args.g * start.args.m + l.c)))
+overflow_add-sum-in-loop-c-2 c = let l = c.loop-c in omega (arith, l.invariant.cap, c.requires.1.1.at (c.args.first + (c.args.g * c.args.m + l.c)))
 
 pub loop-c-preserved : goal.loop-c-preserved
-loop-c-preserved c = let l = c.loop-c in let start = c.before.before.before in sum_step l.invariant (search rules) refl (start.requires.1.1.at (start.args.first + (start.args.g * start.args.m + l.c)))
+loop-c-preserved c = let l = c.loop-c in sum_step l.invariant (search rules) refl (c.requires.1.1.at (c.args.first + (c.args.g * c.args.m + l.c)))
 
 pub returns : goal.returns
 returns c = sum_done c.loop-c.invariant (search rules)

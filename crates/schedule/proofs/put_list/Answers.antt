@@ -6,5 +6,4 @@ use Rattle.schedule.proofs.put_list.Goals as goal
 
 pub returns : goal.returns
 returns c =
-    let put = c.before.before in
-    rw (put.spread-rows.ensures, cell_drop_none) at (simp zero-add at put.replace_numbers.ensures)
+    rw (c.spread-rows.ensures, cell_drop_none) at (simp zero-add at c.replace_numbers.ensures)

@@ -7,19 +7,13 @@ use Rattle.schedule.proofs.replace_schedule.Goals as goal
 
 pub put_list-requires : goal.put_list-requires
 put_list-requires c =
-    let start = c.before.before.before.before in
-    (record { size = start.requires.whole; placed = omega arith }, kw_rows _ _ _ start.requires)
+    (record { size = c.requires.whole; placed = omega arith }, kw_rows _ _ _ c.requires)
 
 pub put_list-requires-2 : goal.put_list-requires-2
 put_list-requires-2 c =
-    let kw = c.before.before.before in
-    let start = kw.before.before.before.before.before in
-    (record { size = kw.put_list.auto.s ∙ start.requires.whole; placed = omega arith }, rank_rows _ _ _ start.requires)
+    (record { size = c.put_list.auto.s ∙ c.requires.whole; placed = omega arith }, rank_rows _ _ _ c.requires)
 
 pub returns : goal.returns
 returns c =
-    let rank = c.before.before in
-    let kw = rank.before.before.before.before in
-    let start = kw.before.before.before.before.before in
-    bytes_after _ _ _ start.requires kw.put_list.ensures rank.put_list-2.ensures (rank.put_list-2.auto.s ∙ kw.put_list.auto.s ∙ start.requires.whole)
+    bytes_after _ _ _ c.requires c.put_list.ensures c.put_list-2.ensures (c.put_list-2.auto.s ∙ c.put_list.auto.s ∙ c.requires.whole)
     (λ i. omega (arith, c.slice_known-3-1.given i))

@@ -7,5 +7,4 @@ use Rattle.schedule.proofs.schedule.Goals as goal
 
 pub returns : goal.returns
 returns c =
-    let called = c.before.before.before in
-    on_struct _ _ (schedule_keeps _ _) called.store.ensures.1 c.load-after.ensures called.schedule_on-number.ensures
+    on_struct _ _ (schedule_keeps _ _) c.store.ensures.1 c.load-after.ensures c.schedule_on-number.ensures

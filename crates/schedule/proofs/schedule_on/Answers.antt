@@ -6,18 +6,13 @@ use Rattle.schedule.proofs.schedule_on.Goals as goal
 
 pub replace_schedule-requires : goal.replace_schedule-requires
 replace_schedule-requires c =
-    let refusal = c.before.before in
-    let counts = refusal.before.before in
-    let terms = counts.before.before in
     accepted_here _ _ _
-    (record { whole = search rules; terms_are = terms.load_terms-terms.ensures; counts_are = counts.load_counts-counts.ensures })
-    (sym refusal.refusal_on-number.ensures ∙ c.if-number-eq0.true)
+    (record { whole = search rules; terms_are = c.load_terms-terms.ensures; counts_are = c.load_counts-counts.ensures })
+    (sym c.refusal_on-number.ensures ∙ c.if-number-eq0.true)
 
 pub returns-then-number-eq0 : goal.returns-then-number-eq0
 returns-then-number-eq0 c =
-    let called = c.before.before in
-    let accepted = called.before.before in
-    schedule_accepted _ _ _ (sym accepted.refusal_on-number.ensures ∙ accepted.if-number-eq0.true) called.replace_schedule.ensures
+    schedule_accepted _ _ _ (sym c.refusal_on-number.ensures ∙ c.if-number-eq0.true) c.replace_schedule.ensures
 
 pub returns : goal.returns
 returns c = schedule_refused _ _ _ c.refusal_on-number.ensures c.if-number-eq0.false

@@ -19,10 +19,8 @@ row_total-total-requires c = let l = c.loop-g in first_row_at l.g c.requires (se
 
 pub loop-g-preserved : goal.loop-g-preserved
 loop-g-preserved c =
-    let at-loop = c.before.before.before.before in
-    let start = at-loop.before.before in
-    let l = at-loop.loop-g in
-    look_step l.invariant (search rules) (row_over start.args.t1 _ _ _ _ _ (search rules) (search rules) c.row_total-total.ensures)
+    let l = c.loop-g in
+    look_step l.invariant (search rules) (row_over c.args.agreed _ _ _ _ _ (search rules) (search rules) c.row_total-total.ensures)
 
 pub returns : goal.returns
 unfolding over_capacity

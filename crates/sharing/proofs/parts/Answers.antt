@@ -11,16 +11,16 @@ pub loop-c-init : goal.loop-c-init
 loop-c-init c = sharing_start
 
 pub overflow_add-sum : goal.overflow_add-sum
-overflow_add-sum c = let s = c.before in omega (arith, next_le s.requires s.loop-c.invariant s.loop-c-test.true)
+overflow_add-sum c = omega (arith, next_le c.requires c.loop-c.invariant c.loop-c-test.true)
 
 pub overflow_mul-share : goal.overflow_mul-share
-overflow_mul-share c = let s = c.before in omega (arith, product_le s.requires s.loop-c.invariant s.loop-c-test.true)
+overflow_mul-share c = omega (arith, product_le c.requires c.loop-c.invariant c.loop-c-test.true)
 
 pub overflow_sub-out : goal.overflow_sub-out
-overflow_sub-out c = let s = c.before in share_rises s.requires s.loop-c.invariant s.loop-c-test.true
+overflow_sub-out c = share_rises c.requires c.loop-c.invariant c.loop-c-test.true
 
 pub overflow_cast-out : goal.overflow_cast-out
-overflow_cast-out c = let s = c.before in omega (arith, share_le s.requires s.loop-c.invariant s.loop-c-test.true)
+overflow_cast-out c = omega (arith, share_le c.requires c.loop-c.invariant c.loop-c-test.true)
 
 pub loop-c-preserved : goal.loop-c-preserved
 loop-c-preserved c =

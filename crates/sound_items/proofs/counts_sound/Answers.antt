@@ -7,7 +7,4 @@ use Rattle.sound_items.proofs.counts_sound.Goals as goal
 pub returns : goal.returns
 unfolding counts_test counts_sound
 returns c =
-    let after-in-range3 = c.before.before.before.before.before in
-    let after-in-range2 = after-in-range3.before.before in
-    let after-in-range = after-in-range2.before in
-    rw (after-in-range.in_range.ensures, after-in-range2.in_range-2.ensures, after-in-range3.in_range-3.ensures)
+    rw (c.in_range.ensures, c.in_range-2.ensures, c.in_range-3.ensures)

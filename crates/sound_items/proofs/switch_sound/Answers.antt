@@ -8,7 +8,6 @@ use Rattle.sound_items.proofs.switch_sound.Goals as goal
 pub returns : goal.returns
 unfolding switch_sound
 returns c =
-    let added = c.before.before.before.before in
-    let a = added.args in
+    let a = c.args in
     ap (λ (t : Bool). (leb a.t.month most_switch && t) && (not a.hours || eqb a.n.gone 0))
-    (sum_within a.t.closings a.n.monthblocks a.n.unitblocks (search rules) (search rules) (search rules) added.wrapping_add_u64-sum.ensures.value)
+    (sum_within a.t.closings a.n.monthblocks a.n.unitblocks (search rules) (search rules) (search rules) c.wrapping_add_u64-sum.ensures.value)

@@ -11,13 +11,9 @@ row_total-total-requires c = let p = c.requires in (p.0, (p.1.0, omega (arith, c
 
 pub returns : goal.returns
 returns c =
-    let after-number-at = c.before.before.before in
-    let after-row-total = after-number-at.before in
-    let after-columns-within = after-row-total.before in
-    let start = after-columns-within.before.before in
     c.agreed_sound.ensures ∙
-    agreed_held _ _ _ _ start.requires.1.0
-    after-number-at.number_at.ensures
+    agreed_held _ _ _ _ c.requires.1.0
+    c.number_at.ensures
     c.number_at-2.ensures
     c.number_at-3.ensures
-    (rw (← after-columns-within.columns_within-columns.ensures) after-row-total.row_total-total.ensures)
+    (rw (← c.columns_within-columns.ensures) c.row_total-total.ensures)

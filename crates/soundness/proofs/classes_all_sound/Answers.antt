@@ -6,8 +6,7 @@ use Rattle.soundness.proofs.classes_all_sound.Goals as goal
 pub returns-then-hours : goal.returns-then-hours
 unfolding classes_held
 returns-then-hours c =
-    let bank = c.before.before in
-    rw (bank.if-hours.true, bank.list_added_up.ensures, c.list_added_up-then-hours.ensures, c.list_added_up-then-hours-2.ensures)
+    rw (c.if-hours.true, c.list_added_up.ensures, c.list_added_up-then-hours.ensures, c.list_added_up-then-hours-2.ensures)
 
 pub returns-else-hours : goal.returns-else-hours
 returns-else-hours c = rw c.if-hours.false c.classes_empty.ensures

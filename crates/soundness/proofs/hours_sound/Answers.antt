@@ -5,13 +5,8 @@ use Rattle.soundness.proofs.hours_sound.Goals as goal
 
 pub returns : goal.returns
 returns c =
-    let tested = c.before in
-    let applied = tested.before in
-    let closings = applied.before in
-    let month = closings.before in
-    let start = month.before.before in
-    hours_held _ start.requires.1
-    (λ i. record { month = month.number_at-month.ensures i; closings = closings.number_at-closings.ensures i })
-    applied.apply-hours.ensures
-    tested.switch_sound.ensures
+    hours_held _ c.requires.1
+    (λ i. record { month = c.number_at-month.ensures i; closings = c.number_at-closings.ensures i })
+    c.apply-hours.ensures
+    c.switch_sound.ensures
     c.classes_all_sound.ensures

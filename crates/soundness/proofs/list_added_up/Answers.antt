@@ -16,12 +16,8 @@ loop-i-init c = test_start
 
 pub loop-i-preserved : goal.loop-i-preserved
 loop-i-preserved c =
-    let peak = c.before in
-    let normal = peak.before in
-    let offpeak = normal.before in
-    let whole = offpeak.before in
-    test_step whole.loop-i.invariant (search rules)
-    (c.classes_sound-ok.ensures ∙ class_held _ true _ whole.number_at.ensures offpeak.number_at-in-loop-i.ensures normal.number_at-in-loop-i-2.ensures peak.number_at-in-loop-i-3.ensures)
+    test_step c.loop-i.invariant (search rules)
+    (c.classes_sound-ok.ensures ∙ class_held _ true _ c.number_at.ensures c.number_at-in-loop-i.ensures c.number_at-in-loop-i-2.ensures c.number_at-in-loop-i-3.ensures)
 
 pub returns : goal.returns
 unfolding list_held

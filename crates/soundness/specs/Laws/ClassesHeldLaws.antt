@@ -57,27 +57,27 @@ module _ (s : List ℕ) where
 
   bank_total_lem : (g : ℕ) → g < 8 → bank_total (book_in s) g ≡ class_total s g
   unfolding bank_total figures
-  bank_total_lem g h = total _ g (λ k l. places.class-bank-place (words_in s) k g l h)
+  bank_total_lem g h = total _ g (λ k l. places.class_bank_place (words_in s) k g l h)
 
   pending_total_lem : (g : ℕ) → g < 8 → pending_total (book_in s) g ≡ class_total s (8 + g)
   unfolding pending_total figures
-  pending_total_lem g h = total _ (8 + g) (λ k l. places.class-pending-place (words_in s) k g l h ∙ ap at (omega arith))
+  pending_total_lem g h = total _ (8 + g) (λ k l. places.class_pending_place (words_in s) k g l h ∙ ap at (omega arith))
 
   open_total_lem : (c : ℕ) → c < 16 → open_total (book_in s) c ≡ class_total s (16 + c)
   unfolding open_total figures
-  open_total_lem c h = total _ (16 + c) (λ k l. places.class-open-place (words_in s) k c l h ∙ ap at (omega arith))
+  open_total_lem c h = total _ (16 + c) (λ k l. places.class_open_place (words_in s) k c l h ∙ ap at (omega arith))
 
   bank_here : (g : ℕ) → g < 8 → ((book_in s).gen g).bank ≡ at (bank_at + g)
   unfolding figures generator_at
-  bank_here g h = place_in 8 _ g h ∙ places.generator-bank-place (words_in s) g h ∙ ap at (omega arith)
+  bank_here g h = place_in 8 _ g h ∙ places.generator_bank_place (words_in s) g h ∙ ap at (omega arith)
 
   pending_here : (g : ℕ) → g < 8 → ((book_in s).gen g).pending ≡ at (pending_at + g)
   unfolding figures generator_at
-  pending_here g h = place_in 8 _ g h ∙ places.generator-pending-place (words_in s) g h ∙ ap at (omega arith)
+  pending_here g h = place_in 8 _ g h ∙ places.generator_pending_place (words_in s) g h ∙ ap at (omega arith)
 
   open_here : (c : ℕ) → c < 16 → ((book_in s).con c).outstanding ≡ at (outstanding_at + c)
   unfolding figures consumer_at
-  open_here c h = place_in 16 _ c h ∙ places.consumer-outstanding-place (words_in s) c h ∙ ap at (omega arith)
+  open_here c h = place_in 16 _ c h ∙ places.consumer_outstanding_place (words_in s) c h ∙ ap at (omega arith)
 
   generators_here : all 8 (generator_hours (book_in s)) ≡ list_held (by_hours (book_in s)) s bank_at 0 8 && list_held (by_hours (book_in s)) s pending_at 8 8
   unfolding generator_hours list_held
@@ -101,5 +101,5 @@ module _ (s : List ℕ) where
   hours_held n w h p q =
       let f = book_in s in
       let switch : Bool = switch_sound (by_hours f) f.switch f.closings f.gone f.unitblocks f.monthblocks in
-      rw (p, q, h, w ∙ sym (places.switch-places (words_in s)), n)
+      rw (p, q, h, w ∙ sym (places.switch_places (words_in s)), n)
       (sym (and_assoc switch _ _) ∙ ap₂ (λ (x y : Bool). (switch && x) && y) (sym generators_here) (sym consumers_here))

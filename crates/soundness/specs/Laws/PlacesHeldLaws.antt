@@ -81,14 +81,14 @@ both_false false false = refl
 
 module _ (s : List ℕ) where
   pub kw_held : (i : ℕ) → i < 128 → at s (kw_at + i) ≡ get_or (record_in s).schedule.kw i 0
-  kw_held i h = sym (places.kw-place (words_in s) i h)
+  kw_held i h = sym (places.kw_place (words_in s) i h)
 
   pub agreed_held : (G C g : ℕ) {kind installed contracted total : ℕ} → g < 8 →
       kind ≡ at s (agreed_at + g * 3) → installed ≡ at s (agreed_at + g * 3 + 1) → contracted ≡ at s (agreed_at + g * 3 + 2) → RowTotal (record_in s).schedule.kw g C total →
       agreed_sound (ltb g G) kind installed contracted total ≡ agreed_test (record_in s).agreed (record_in s).schedule.kw G C g
   agreed_held G C g h a b c t =
       let ws = words_in s in
-      rw (a ∙ sym (places.kind-place ws g h), b ∙ sym (places.installed-place ws g h), c ∙ sym (places.contracted-place ws g h)) (agreed_here _ _ G C g h t)
+      rw (a ∙ sym (places.kind_place ws g h), b ∙ sym (places.installed_place ws g h), c ∙ sym (places.contracted_place ws g h)) (agreed_here _ _ G C g h t)
 
   pub pair_held_lem : (inside : Bool) (k : ℕ) {link loss kw rank : ℕ} → k < 128 →
       link ≡ at s (link_at + k) → loss ≡ at s (loss_at + k) → kw ≡ at s (kw_at + k) → rank ≡ at s (rank_at + k) →
@@ -96,7 +96,7 @@ module _ (s : List ℕ) where
   unfolding pair_held pair_read
   pair_held_lem inside k h a b c d =
       let ws = words_in s in
-      rw (a ∙ sym (places.link-place ws k h), b ∙ sym (places.loss-place ws k h), c ∙ sym (places.kw-place ws k h), d ∙ sym (places.rank-place ws k h))
+      rw (a ∙ sym (places.link_place ws k h), b ∙ sym (places.loss_place ws k h), c ∙ sym (places.kw_place ws k h), d ∙ sym (places.rank_place ws k h))
 
   pub generator_held : (g : ℕ) {x : GeneratorTerms} → g < 8 →
       x ≡ record {
@@ -114,16 +114,16 @@ module _ (s : List ℕ) where
   generator_held g h e =
       let ws = words_in s in
       e ∙ sym (λ i. record {
-        injected = places.generator-injected-place ws g h i;
-        unaccounted = places.generator-unaccounted-place ws g h i;
-        lost = places.generator-lost-place ws g h i;
-        setoff = places.generator-setoff-place ws g h i;
-        inadvertent = places.generator-inadvertent-place ws g h i;
-        charge = places.generator-charge-place ws g h i;
-        drawn = places.generator-drawn-place ws g h i;
-        lapsed = places.generator-lapsed-place ws g h i;
-        bank = places.generator-bank-place ws g h i;
-        pending = places.generator-pending-place ws g h i;
+        injected = places.generator_injected_place ws g h i;
+        unaccounted = places.generator_unaccounted_place ws g h i;
+        lost = places.generator_lost_place ws g h i;
+        setoff = places.generator_setoff_place ws g h i;
+        inadvertent = places.generator_inadvertent_place ws g h i;
+        charge = places.generator_charge_place ws g h i;
+        drawn = places.generator_drawn_place ws g h i;
+        lapsed = places.generator_lapsed_place ws g h i;
+        bank = places.generator_bank_place ws g h i;
+        pending = places.generator_pending_place ws g h i;
       })
 
   pub consumer_held : (c : ℕ) {x : ConsumerTerms} → c < 16 →
@@ -138,12 +138,12 @@ module _ (s : List ℕ) where
   consumer_held c h e =
       let ws = words_in s in
       e ∙ sym (λ i. record {
-        metered = places.consumer-metered-place ws c h i;
-        setoff = places.consumer-setoff-place ws c h i;
-        shortfall = places.consumer-shortfall-place ws c h i;
-        drawn = places.consumer-drawn-place ws c h i;
-        supplied = places.consumer-supplied-place ws c h i;
-        outstanding = places.consumer-outstanding-place ws c h i;
+        metered = places.consumer_metered_place ws c h i;
+        setoff = places.consumer_setoff_place ws c h i;
+        shortfall = places.consumer_shortfall_place ws c h i;
+        drawn = places.consumer_drawn_place ws c h i;
+        supplied = places.consumer_supplied_place ws c h i;
+        outstanding = places.consumer_outstanding_place ws c h i;
       })
 
   -- Where every pair is sound, those beyond the agreement have no kW: the row of a generator beyond it need not be added up.

@@ -1,6 +1,5 @@
 -- The loop of `table::count_values`: what lasts from turn to turn, and what falls.
-use Prim.Native.Nat.{◌-◌}
-use lib.ListN.{length}
+use Rattle.std.proofs.Common.{◌-◌, length}
 use Rattle.table.specs.Laws.ReaderLoops.{Counted}
 use Rattle.table.proofs.count_values.Given as goal
 

@@ -1,5 +1,6 @@
 -- `table::in_range` meets its contract, by the four tests. Assumes nothing.
-use borrow.Author.Tests.{le-leb, lt-leb}
+use Rattle.std.proofs.Common.{le-leb}
+use Rattle.std.proofs.lemmas.Bool.{lt-leb}
 use Rattle.lists.specs.Tests.{within}
 use Rattle.table.specs.Table.{in_range}
 use Rattle.table.proofs.in_range.Goals as goal
@@ -10,18 +11,14 @@ returns-then-g-lt1 c = simp (lt-leb 1 c.args.g c.if-g-lt1.true)
 
 pub returns-then-g-gt8 : goal.returns-then-g-gt8
 unfolding in_range within
-returns-then-g-gt8 c =
-    let s = c.before.before in
-    simp (le-leb 1 s.args.g c.if-g-lt1.false, lt-leb s.args.g 8 c.if-g-gt8.true)
+returns-then-g-gt8 c = simp (le-leb 1 c.args.g c.if-g-lt1.false, lt-leb c.args.g 8 c.if-g-gt8.true)
 
 pub returns-then-c-lt1 : goal.returns-then-c-lt1
 unfolding in_range within
 returns-then-c-lt1 c =
-    let s = c.before.before.before in
-    simp (le-leb 1 s.args.g c.if-g-lt1.false, le-leb s.args.g 8 c.if-g-gt8.false, lt-leb 1 s.args.c c.if-c-lt1.true)
+    simp (le-leb 1 c.args.g c.if-g-lt1.false, le-leb c.args.g 8 c.if-g-gt8.false, lt-leb 1 c.args.c c.if-c-lt1.true)
 
 pub returns : goal.returns
 unfolding in_range within
 returns c =
-    let s = c.before.before.before in
-    simp (le-leb 1 s.args.g c.if-g-lt1.false, le-leb s.args.g 8 c.if-g-gt8.false, le-leb 1 s.args.c c.if-c-lt1.false)
+    simp (le-leb 1 c.args.g c.if-g-lt1.false, le-leb c.args.g 8 c.if-g-gt8.false, le-leb 1 c.args.c c.if-c-lt1.false)

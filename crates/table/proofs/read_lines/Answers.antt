@@ -1,14 +1,15 @@
 -- `table::read_lines` meets its contract, by the refusals 15 and 16, and the values laid where neither applies. Assumes nothing.
-use mathlib.Core.Path.{sym, ◌∙◌}
-use native.Mathlib.Omega.{arith}
-use borrow.Author.Rules.{rules}
-use borrow.Author.Tests.{not-true, not-false}
-use Rattle.table.specs.Laws.ReaderMeets.{formed_tested, room_tested, lines_15, lines_16, lines_laid}
+use Rattle.std.proofs.Common.{sym, ◌∙◌, arith}
+use Rattle.table.specs.Laws.ReaderMeets.{lines_15, lines_16, lines_laid}
 use Rattle.table.proofs.read_lines.Goals as goal
 
--- What the write asks stands first, and finds the tests wherever they stand before it.
 pub write_values-requires : goal.write_values-requires
-write_values-requires c = search (rules, formed_tested, room_tested)
+write_values-requires c =
+    record {
+      some = c.requires;
+      formed = sym c.well_formed-2.ensures ∙ c.if-not-well_formed.false;
+      room = omega (arith, c.count_values-k.ensures);
+    }
 
 pub returns-then-not-well_formed : goal.returns-then-not-well_formed
 returns-then-not-well_formed c =
@@ -16,22 +17,17 @@ returns-then-not-well_formed c =
 
 pub returns-then-out-k : goal.returns-then-out-k
 returns-then-out-k c =
-    let after-well-formed = c.before.before.before in
-    let start = after-well-formed.before.before.before in
     lines_16
-    start.args.out.now
-    (sym after-well-formed.well_formed-2.ensures ∙ c.if-not-well_formed.false)
+    c.args.out.now
+    (sym c.well_formed-2.ensures ∙ c.if-not-well_formed.false)
     (omega (arith, c.count_values-k.ensures, c.if-out-k.true))
 
 pub returns : goal.returns
 returns c =
-    let after-write-values = c.before.before.before in
-    let at-if2 = after-write-values.before.before in
-    let k = at-if2.before in
-    rw (c.count_lines-lines.ensures, k.count_values-k.ensures)
+    rw (c.count_lines-lines.ensures, c.count_values-k.ensures)
     (lines_laid
     _
     _
-    (sym k.well_formed-2.ensures ∙ k.if-not-well_formed.false)
-    (omega (arith, k.count_values-k.ensures, at-if2.if-out-k.false))
-    after-write-values.write_values.ensures)
+    (sym c.well_formed-2.ensures ∙ c.if-not-well_formed.false)
+    (omega (arith, c.count_values-k.ensures, c.if-out-k.false))
+    c.write_values.ensures)

@@ -1,29 +1,16 @@
 -- `table::starts_with` meets its contract. The loop's invariant: the bytes passed are the same in both. Assumes nothing.
-use Prim.Native.Nat.{◌-◌}
-use lib.ListN.{length}
-use borrow.Author.Rules.{rules}
-use Rattle.table.specs.Laws.ReaderLoops.{Matching, match_start, match_step, match_done, match_short, match_differs}
+use Rattle.table.specs.Laws.ReaderLoops.{match_step, match_done, match_short, match_differs}
 use Rattle.table.proofs.starts_with.Goals as goal
 
 pub returns-then-text-line : goal.returns-then-text-line
 returns-then-text-line c = match_short c.args.text.now c.args.line.now c.if-text-line.true
 
-pub loop-i-init : goal.loop-i-init
-loop-i-init c = match_start (search rules)
-
 pub returns-then-text-i : goal.returns-then-text-i
 returns-then-text-i c =
-    let at-loop = c.before.before.before.before in
-    let start = at-loop.before.before in
-    match_differs
-    start.args.text.now
-    start.args.line.now
-    at-loop.loop-i.i
-    (search rules)
-    c.if-text-i.true
+    match_differs c.args.text.now c.args.line.now c.loop-i.i c.loop-i-test.true c.if-text-i.true
 
 pub loop-i-preserved : goal.loop-i-preserved
-loop-i-preserved c = match_step c.loop-i.invariant (search rules) c.if-text-i.false
+loop-i-preserved c = match_step c.loop-i.invariant c.loop-i-test.true c.if-text-i.false
 
 pub returns : goal.returns
-returns c = match_done c.loop-i.invariant (search rules)
+returns c = match_done c.loop-i.invariant c.loop-i-test.false

@@ -1,6 +1,5 @@
 -- The loop of `table::starts_with`: what lasts from turn to turn, and what falls.
-use Prim.Native.Nat.{◌-◌}
-use lib.ListN.{length}
+use Rattle.std.proofs.Common.{◌-◌, length}
 use Rattle.table.specs.Laws.ReaderLoops.{Matching}
 use Rattle.table.proofs.starts_with.Given as goal
 

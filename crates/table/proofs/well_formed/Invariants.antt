@@ -1,6 +1,5 @@
 -- The loop of `table::well_formed`: what lasts from turn to turn, and what falls.
-use Prim.Native.Nat.{◌-◌}
-use lib.ListN.{length}
+use Rattle.std.proofs.Common.{◌-◌, length}
 use Rattle.table.specs.Laws.ReaderLoops.{Scanned}
 use Rattle.table.proofs.well_formed.Given as goal
 

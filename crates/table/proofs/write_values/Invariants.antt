@@ -1,6 +1,5 @@
 -- The loop of `table::write_values`: what lasts from turn to turn, and what falls.
-use Prim.Native.Nat.{◌-◌}
-use lib.ListN.{length}
+use Rattle.std.proofs.Common.{◌-◌, length}
 use Rattle.table.specs.Laws.ReaderLoops.{Writing}
 use Rattle.table.proofs.write_values.Given as goal
 

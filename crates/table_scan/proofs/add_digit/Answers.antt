@@ -13,11 +13,9 @@ returns-then-n-eq0 c = simp (eq-eqb c.args.n 0 c.if-n-eq0.true)
 pub returns-then-m-le4294967295 : goal.returns-then-m-le4294967295
 unfolding add_digit
 returns-then-m-le4294967295 c =
-    let s = c.before.before in
-    simp (ne_eqb s.args.n 0 c.if-n-eq0.false, le-leb (s.args.n * 10 + s.args.d) largest c.if-m-le4294967295.true)
+    simp (ne_eqb c.args.n 0 c.if-n-eq0.false, le-leb (c.args.n * 10 + c.args.d) largest c.if-m-le4294967295.true)
 
 pub returns-else-m-le4294967295 : goal.returns-else-m-le4294967295
 unfolding add_digit
 returns-else-m-le4294967295 c =
-    let s = c.before.before in
-    simp (ne_eqb s.args.n 0 c.if-n-eq0.false, lt-leb (s.args.n * 10 + s.args.d) largest c.if-m-le4294967295.false)
+    simp (ne_eqb c.args.n 0 c.if-n-eq0.false, lt-leb (c.args.n * 10 + c.args.d) largest c.if-m-le4294967295.false)

@@ -21,11 +21,9 @@ returns-then-is_digit c = simp (sym c.is_digit.ensures ∙ c.if-is_digit.true) c
 pub returns-then-b-sep : goal.returns-then-b-sep
 unfolding later_byte
 returns-then-b-sep c =
-    let s = c.before.before.before in
-    simp (sym c.is_digit.ensures ∙ c.if-is_digit.false, eq-eqb s.args.b s.args.sep c.if-b-sep.true)
+    simp (sym c.is_digit.ensures ∙ c.if-is_digit.false, eq-eqb c.args.b c.args.sep c.if-b-sep.true)
 
 pub returns : goal.returns
 unfolding later_byte
 returns c =
-    let s = c.before.before.before in
-    simp (sym c.is_digit.ensures ∙ c.if-is_digit.false, ne_eqb s.args.b s.args.sep c.if-b-sep.false)
+    simp (sym c.is_digit.ensures ∙ c.if-is_digit.false, ne_eqb c.args.b c.args.sep c.if-b-sep.false)

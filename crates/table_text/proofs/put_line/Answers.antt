@@ -16,31 +16,25 @@ put_decimal-end-requires c =
 
 pub bounds-buf-end : goal.bounds-buf-end
 bounds-buf-end c =
-    let after-put-decimal = c.before.before.before in
-    let at-loop = after-put-decimal.before.before.before.before in
-    let h = at-loop.loop-j.invariant in
-    let p = after-put-decimal.put_decimal-end.ensures in
+    let h = c.loop-j.invariant in
+    let p = c.put_decimal-end.ensures in
     let r = lining_room h (search rules) in
     omega (arith, p.ends, put_length p (omega arith))
 
 pub overflow_add-at : goal.overflow_add-at
 overflow_add-at c =
-    let after-put-decimal = c.before.before.before in
-    let at-loop = after-put-decimal.before.before.before.before in
-    let h = at-loop.loop-j.invariant in
-    let p = after-put-decimal.put_decimal-end.ensures in
+    let h = c.loop-j.invariant in
+    let p = c.put_decimal-end.ensures in
     let r = lining_room h (search rules) in
     omega (arith, p.ends, lining_size h)
 
 pub loop-j-preserved : goal.loop-j-preserved
 loop-j-preserved c =
-    let after-put-decimal = c.before.before.before in
-    let at-loop = after-put-decimal.before.before.before.before in
     lining_step
     c.separator_after.result
-    at-loop.loop-j.invariant
+    c.loop-j.invariant
     (search rules)
-    after-put-decimal.put_decimal-end.ensures
+    c.put_decimal-end.ensures
     c.separator_after.ensures
 
 pub shape_of-buf : goal.shape_of-buf

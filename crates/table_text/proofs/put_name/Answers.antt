@@ -9,38 +9,32 @@ use Rattle.table_text.proofs.put_name.Goals as goal
 
 pub bounds-buf-i : goal.bounds-buf-i
 bounds-buf-i c =
-    let s = c.before.before in
-    omega (arith, s.requires.1.fits, ap length (name_e s.args.g s.args.j (search rules)))
+    omega (arith, c.requires.1.fits, ap length (name_e c.args.g c.args.j (search rules)))
 
 pub put_decimal-requires : goal.put_decimal-requires
 put_decimal-requires c =
-    let s = c.before.before.before in
-    record { fits = simp length-set (omega (arith, s.requires.1.fits, ap length (name_e s.args.g s.args.j (search rules)))) }
+    record { fits = simp length-set (omega (arith, c.requires.1.fits, ap length (name_e c.args.g c.args.j (search rules)))) }
 
 pub shape_of-buf-then-j-g : goal.shape_of-buf-then-j-g
 shape_of-buf-then-j-g c = c.put_decimal.auto.buf ∙ simp length-set
 
 pub returns-then-j-g : goal.returns-then-j-g
 returns-then-j-g c =
-    let s = c.before.before.before.before.before.before in
-    let e = name_e s.args.g s.args.j (search rules) in
-    rw e (put_cons (omega (arith, s.requires.1.fits, ap length e)) c.put_decimal.ensures)
+    let e = name_e c.args.g c.args.j (search rules) in
+    rw e (put_cons (omega (arith, c.requires.1.fits, ap length e)) c.put_decimal.ensures)
 
 pub bounds-buf-i-2 : goal.bounds-buf-i-2
 bounds-buf-i-2 c =
-    let s = c.before.before in
-    omega (arith, s.requires.1.fits, ap length (name_r s.args.g s.args.j (search rules)))
+    omega (arith, c.requires.1.fits, ap length (name_r c.args.g c.args.j (search rules)))
 
 pub put_decimal-requires-2 : goal.put_decimal-requires-2
 put_decimal-requires-2 c =
-    let s = c.before.before.before in
-    record { fits = simp length-set (omega (arith, s.requires.1.fits, ap length (name_r s.args.g s.args.j (search rules)))) }
+    record { fits = simp length-set (omega (arith, c.requires.1.fits, ap length (name_r c.args.g c.args.j (search rules)))) }
 
 pub shape_of-buf : goal.shape_of-buf
 shape_of-buf c = c.put_decimal-2.auto.buf ∙ simp length-set
 
 pub returns : goal.returns
 returns c =
-    let s = c.before.before.before.before.before.before in
-    let e = name_r s.args.g s.args.j (search rules) in
-    rw e (put_cons (omega (arith, s.requires.1.fits, ap length e)) c.put_decimal-2.ensures)
+    let e = name_r c.args.g c.args.j (search rules) in
+    rw e (put_cons (omega (arith, c.requires.1.fits, ap length e)) c.put_decimal-2.ensures)

@@ -22,31 +22,25 @@ separator_after-requires c =
 
 pub bounds-buf-end : goal.bounds-buf-end
 bounds-buf-end c =
-    let after-put-name = c.before.before.before in
-    let at-loop = after-put-name.before.before.before in
-    let h = at-loop.loop-j.invariant in
-    let p = after-put-name.put_name-end.ensures in
+    let h = c.loop-j.invariant in
+    let p = c.put_name-end.ensures in
     let r = naming_room h (search rules) in
     omega (arith, p.ends, put_length p (omega arith))
 
 pub overflow_add-i : goal.overflow_add-i
 overflow_add-i c =
-    let after-put-name = c.before.before.before in
-    let at-loop = after-put-name.before.before.before in
-    let h = at-loop.loop-j.invariant in
-    let p = after-put-name.put_name-end.ensures in
+    let h = c.loop-j.invariant in
+    let p = c.put_name-end.ensures in
     let r = naming_room h (search rules) in
     omega (arith, p.ends, naming_size h)
 
 pub loop-j-preserved : goal.loop-j-preserved
 loop-j-preserved c =
-    let after-put-name = c.before.before.before in
-    let at-loop = after-put-name.before.before.before in
     naming_step
     c.separator_after.result
-    at-loop.loop-j.invariant
+    c.loop-j.invariant
     (search rules)
-    after-put-name.put_name-end.ensures
+    c.put_name-end.ensures
     c.separator_after.ensures
 
 pub shape_of-buf : goal.shape_of-buf

@@ -8,11 +8,8 @@ returns-then-number-ne0 c = shows_refusal c.args.values.now c.month-a.ensures c.
 
 pub returns : goal.returns
 returns c =
-    let at-if1 = c.before.before.before in
-    let after-month = at-if1.before in
-    let start = after-month.before.before in
     shows_equation
-    start.args.values.now
-    after-month.month-a.ensures
-    at-if1.if-number-ne0.false
+    c.args.values.now
+    c.month-a.ensures
+    c.if-number-ne0.false
     c.equation.ensures

@@ -7,6 +7,4 @@ use Rattle.wheel_month.proofs.agreement_a.Goals as goal
 pub returns : goal.returns
 unfolding agreement_a
 returns c =
-    let scheduled = c.before.before in
-    let opened = scheduled.before.before.before.before.before.before in
-    agreement_held opened.opening_on.ensures (search rules) scheduled.schedule_on.ensures
+    agreement_held c.opening_on.ensures (search rules) c.schedule_on.ensures

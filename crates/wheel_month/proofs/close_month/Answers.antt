@@ -6,4 +6,4 @@ use Rattle.wheel_month.proofs.close_month.Goals as goal
 
 pub returns : goal.returns
 unfolding rule_of
-returns c = let called = c.before.before.before in carried_on (closing 9) called.requires called.close_on.ensures
+returns c = carried_on (closing 9) c.requires c.close_on.ensures

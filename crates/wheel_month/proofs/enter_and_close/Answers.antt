@@ -11,11 +11,8 @@ returns-then-number-ne0 c = carried_stop c.enter_lines-number.ensures (closing 9
 
 pub close_month-requires : goal.close_month-requires
 close_month-requires c =
-    let entered = c.before.before.before.before in
-    carried_ready entered.enter_lines-number.ensures c.if-number-ne0.false (omega (arith, entered.enter_lines-number.auto.s, entered.requires.whole))
+    carried_ready c.enter_lines-number.ensures c.if-number-ne0.false (omega (arith, c.enter_lines-number.auto.s, c.requires.whole))
 
 pub returns : goal.returns
 returns c =
-    let closed = c.before.before in
-    let accepted = closed.before.before in
-    carried_then accepted.enter_lines-number.ensures accepted.if-number-ne0.false closed.close_month.ensures
+    carried_then c.enter_lines-number.ensures c.if-number-ne0.false c.close_month.ensures

@@ -8,6 +8,4 @@ use Rattle.wheel_month.proofs.enter_line.Goals as goal
 pub returns : goal.returns
 unfolding rule_of
 returns c =
-    let called = c.before.before.before in
-    let start = called.before.before.before.before.before.before in
-    carried_on (block (start.args.e ∷ []) (start.args.r1 ∷ start.args.r2 ∷ []) 11) start.requires called.block_on.ensures
+    carried_on (block (c.args.e ∷ []) (c.args.r1 ∷ c.args.r2 ∷ []) 11) c.requires c.block_on.ensures

@@ -7,19 +7,17 @@ use Rattle.wheel_month.specs.Laws.Entering.{Entering, entering_start, entering_s
 use Rattle.wheel_month.proofs.enter_lines.Goals as goal
 
 pub loop-i-init : goal.loop-i-init
-loop-i-init c = let start = c.before.before in entering_start start.args.s.now start.args.values.now start.requires
+loop-i-init c = entering_start c.args.s.now c.args.values.now c.requires
 
 pub returns-then-number-ne0 : goal.returns-then-number-ne0
 returns-then-number-ne0 c =
-    let called = c.before.before.before in
-    let entered = called.loop-i.invariant in
-    entering_stop entered called.enter_line-number.new.s (search rules) called.enter_line-number.ensures c.if-number-ne0.true
+    let entered = c.loop-i.invariant in
+    entering_stop entered c.enter_line-number.new.s (search rules) c.enter_line-number.ensures c.if-number-ne0.true
 
 pub loop-i-preserved : goal.loop-i-preserved
 loop-i-preserved c =
-    let called = c.before.before.before in
-    let entered = called.loop-i.invariant in
-    entering_step entered called.enter_line-number.new.s (search rules) called.enter_line-number.ensures c.if-number-ne0.false (omega (arith, called.enter_line-number.auto.s, entered.ready.whole))
+    let entered = c.loop-i.invariant in
+    entering_step entered c.enter_line-number.new.s (search rules) c.enter_line-number.ensures c.if-number-ne0.false (omega (arith, c.enter_line-number.auto.s, entered.ready.whole))
 
 pub returns : goal.returns
 returns c = entering_done c.loop-i.invariant (search rules)

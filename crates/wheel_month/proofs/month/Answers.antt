@@ -8,12 +8,10 @@ enter_and_close-number-requires c = let agreed = c.agreement-a in month_ready ag
 
 pub returns : goal.returns
 returns c =
-    let entered = c.before.before.before in
-    let agreed = entered.before.before.before in
     month_carried
-    agreed.agreement_a.new.s
-    agreed.agreement_a.ensures
-    agreed.args.values.now
-    entered.enter_and_close-number.new.s
-    entered.enter_and_close-number.ensures
+    c.agreement_a.new.s
+    c.agreement_a.ensures
+    c.args.values.now
+    c.enter_and_close-number.new.s
+    c.enter_and_close-number.ensures
     c.load-after.ensures

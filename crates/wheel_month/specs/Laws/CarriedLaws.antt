@@ -18,7 +18,7 @@ use Rattle.record.specs.declared.Answer.{Answer}
 use Rattle.record_layout.specs.OnBytes.{record_in, CalledOn, book_in}
 use Rattle.record_layout.specs.Laws.OnBytesLaws.{on_struct}
 use Rattle.book.specs.BookCalls.{Call, rule_of, next, book_after, book_answers}
-use Rattle.book.specs.Laws.Demand3Proof.{call_keeps}
+use Rattle.book.proofs.Demand3Proof.{call_keeps}
 use Rattle.wheel_rules.specs.Display.{first_refused}
 use Rattle.wheel_month.specs.Laws.Carried.{Holds, Carried, Ready, answered}
 use Rattle.record_places.specs.RecordSize.{record_bytes}

@@ -15,7 +15,7 @@ use Rattle.agreement_rules.specs.Laws.OpeningLaws.{accepted_permitted, opened_fa
 use Rattle.agreement_rules.specs.Schedule.{schedule_rule}
 use Rattle.book.specs.BookCalls.{block, closing, rule_of, book_after, BookAnswer, book_answers}
 use Rattle.book.specs.AgreementA.{agreement_a, schedule_a}
-use Rattle.book.specs.Laws.BenchCases.{bench_cases}
+use Rattle.book.proofs.BenchCases.{bench_cases}
 use Rattle.wheel_rules.specs.Display.{blocks, calls, first_refused}
 use Rattle.agreement_rules.specs.OpenedOn.{OpenedOn}
 use Rattle.opening.specs.Laws.OpenedOnLaws.{opened_back}

@@ -8,7 +8,5 @@ use Rattle.wheel_print.proofs.word_and_line.Goals as goal
 
 pub returns : goal.returns
 returns c =
-    let after-put-word = c.before.before.before.before in
-    let s = after-put-word.before.before.before.before in
-    let e = printed_short (length s.args.values.now) 0 s.args.values.now in
-    shows_two after-put-word.put_word-start.ensures c.put_line-size.ensures (omega (arith, s.requires))
+    let e = printed_short (length c.args.values.now) 0 c.args.values.now in
+    shows_two c.put_word-start.ensures c.put_line-size.ensures (omega (arith, c.requires))

@@ -12,17 +12,13 @@ slice_bounds-block_on-end c = simp length-take (omega (arith, c.room-n.ensures.w
 
 pub slice_bounds-give-end : goal.slice_bounds-give-end
 slice_bounds-give-end c =
-    let called = c.before.before.before.before in
-    sym (left_size _ called.room-n.ensures (search rules) called.block_on-number.new.out called.block_on-number.auto.out)
+    sym (left_size _ c.room-n.ensures (search rules) c.block_on-number.new.out c.block_on-number.auto.out)
 
 pub give-requires : goal.give-requires
 give-requires c =
-    let called = c.before.before.before.before.before in
-    let h = called.room-n.ensures in
-    (left_room _ h (search rules) called.block_on-number.new.out called.block_on-number.auto.out, block_fits _ _ _ h (search rules) called.block_on-number.ensures)
+    let h = c.room-n.ensures in
+    (left_room _ h (search rules) c.block_on-number.new.out c.block_on-number.auto.out, block_fits _ _ _ h (search rules) c.block_on-number.ensures)
 
 pub returns : goal.returns
 returns c =
-    let given = c.before.before in
-    let called = given.before.before.before.before.before.before in
-    block_written _ _ _ called.room-n.ensures (search rules) called.block_on-number.ensures called.block_on-number.auto.out given.give.ensures
+    block_written _ _ _ c.room-n.ensures (search rules) c.block_on-number.ensures c.block_on-number.auto.out c.give.ensures

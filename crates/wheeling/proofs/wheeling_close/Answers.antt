@@ -12,21 +12,16 @@ slice_bounds-close_on-end c = simp length-take (omega (arith, c.room-n.ensures.w
 
 pub slice_bounds-give-end : goal.slice_bounds-give-end
 slice_bounds-give-end c =
-    let called = c.before.before.before.before in
-    sym (left_size _ called.room-n.ensures (search rules) called.close_on-number.new.out called.close_on-number.auto.out)
+    sym (left_size _ c.room-n.ensures (search rules) c.close_on-number.new.out c.close_on-number.auto.out)
 
 pub give-requires : goal.give-requires
 give-requires c =
-    let called = c.before.before.before.before.before in
-    let h = called.room-n.ensures in
-    (left_room _ h (search rules) called.close_on-number.new.out called.close_on-number.auto.out, closing_fits _ h (search rules) called.close_on-number.ensures)
+    let h = c.room-n.ensures in
+    (left_room _ h (search rules) c.close_on-number.new.out c.close_on-number.auto.out, closing_fits _ h (search rules) c.close_on-number.ensures)
 
 pub returns-then-record-eq-RECORD_BYTES : goal.returns-then-record-eq-RECORD_BYTES
 returns-then-record-eq-RECORD_BYTES c =
-    let given = c.before.before in
-    let called = given.before.before.before.before.before.before in
-    let counted = called.before.before.before in
-    closing_on_bytes _ counted.room-n.ensures (search rules) called.close_on-number.ensures counted.if-record-eq-RECORD_BYTES.true called.close_on-number.auto.out given.give.ensures
+    closing_on_bytes _ c.room-n.ensures (search rules) c.close_on-number.ensures c.if-record-eq-RECORD_BYTES.true c.close_on-number.auto.out c.give.ensures
 
 pub returns : goal.returns
 returns c = on_other c.if-record-eq-RECORD_BYTES.false

@@ -4,24 +4,21 @@ use borrow.Author.Rules.{rules}
 use lib.ListN.{length}
 use Rattle.check_meter_bytes.specs.Laws.DayOnBytesLaws.{day_sizes, day_on_bytes, day_misfit}
 use Rattle.wheeling.proofs.wheeling_day.Goals as goal
-use Rattle.wheeling.proofs.wheeling_day.Goals.{Then-main_list-check_list}
-
--- the three lengths, as they were tested
-sizes :
-    (c : Then-main_list-check_list) → let a = c.args in
-    (length a.main-list.now ≡ 384) × ((length a.check-list.now ≡ 384) × (length a.output.now ≡ 16))
-sizes c =
-    let a = c.args in
-    day_sizes (length a.main-list.now) (length a.check-list.now) (length a.output.now) c.if-main_list-check_list.true
 
 pub read4-requires : goal.read4-requires
-read4-requires c = (sizes c).0
+read4-requires c =
+    let sizes : let a = c.args in (length a.main_list.now ≡ 384) × ((length a.check_list.now ≡ 384) × (length a.output.now ≡ 16)) = let a = c.args in day_sizes (length a.main_list.now) (length a.check_list.now) (length a.output.now) c.if-main_list-check_list.true in
+    sizes.0
 
 pub read4-requires-then-main_list-check_list : goal.read4-requires-then-main_list-check_list
-read4-requires-then-main_list-check_list c = (sizes c).1.0
+read4-requires-then-main_list-check_list c =
+    let sizes : let a = c.args in (length a.main_list.now ≡ 384) × ((length a.check_list.now ≡ 384) × (length a.output.now ≡ 16)) = let a = c.args in day_sizes (length a.main_list.now) (length a.check_list.now) (length a.output.now) c.if-main_list-check_list.true in
+    sizes.1.0
 
 pub give-requires : goal.give-requires
-give-requires c = (search rules, λ z. (sizes c).1.1)
+give-requires c =
+    let sizes : let a = c.args in (length a.main_list.now ≡ 384) × ((length a.check_list.now ≡ 384) × (length a.output.now ≡ 16)) = let a = c.args in day_sizes (length a.main_list.now) (length a.check_list.now) (length a.output.now) c.if-main_list-check_list.true in
+    (search rules, λ z. sizes.1.1)
 
 pub returns-then-main_list-check_list : goal.returns-then-main_list-check_list
 returns-then-main_list-check_list c =

@@ -13,10 +13,7 @@ slice_bounds-opening_on-end-then-record-eq-RECORD_BYTES c = simp length-take (om
 
 pub returns-then-record-eq-RECORD_BYTES : goal.returns-then-record-eq-RECORD_BYTES
 returns-then-record-eq-RECORD_BYTES c =
-    let called = c.before.before in
-    let second = called.before.before.before.before.before in
-    let first = second.before.before.before in
-    opening_on_bytes _ _ _ _ _ _ _ _ first.if-record-eq-RECORD_BYTES.true first.read_input-n.ensures.alike second.read_input-m.ensures.alike called.opening_on.ensures
+    opening_on_bytes _ _ _ _ _ _ _ _ c.if-record-eq-RECORD_BYTES.true c.read_input-n.ensures.alike c.read_input-m.ensures.alike c.opening_on.ensures
 
 pub returns : goal.returns
 returns c = on_other c.if-record-eq-RECORD_BYTES.false

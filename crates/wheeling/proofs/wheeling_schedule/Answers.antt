@@ -7,18 +7,14 @@ use Rattle.wheeling.proofs.wheeling_schedule.Goals as goal
 
 pub slice_bounds-schedule_on-end : goal.slice_bounds-schedule_on-end
 slice_bounds-schedule_on-end c =
-    let after-read-input = c.before.before.before.before.before.before in
-    simp length-take (omega (arith, after-read-input.read_input-n.ensures.within, after-read-input.read_input-n.ensures.size))
+    simp length-take (omega (arith, c.read_input-n.ensures.within, c.read_input-n.ensures.size))
 
 pub slice_bounds-schedule_on-end-then-record-eq-RECORD_BYTES : goal.slice_bounds-schedule_on-end-then-record-eq-RECORD_BYTES
 slice_bounds-schedule_on-end-then-record-eq-RECORD_BYTES c = simp length-take (omega (arith, c.read_input-m.ensures.within, c.read_input-m.ensures.size))
 
 pub returns-then-record-eq-RECORD_BYTES : goal.returns-then-record-eq-RECORD_BYTES
 returns-then-record-eq-RECORD_BYTES c =
-    let called = c.before.before in
-    let second = called.before.before.before.before.before in
-    let first = second.before.before.before in
-    schedule_on_bytes _ _ first.if-record-eq-RECORD_BYTES.true first.read_input-n.ensures.alike second.read_input-m.ensures.alike called.schedule_on.ensures
+    schedule_on_bytes _ _ c.if-record-eq-RECORD_BYTES.true c.read_input-n.ensures.alike c.read_input-m.ensures.alike c.schedule_on.ensures
 
 pub returns : goal.returns
 returns c = on_other c.if-record-eq-RECORD_BYTES.false

@@ -16,9 +16,9 @@ use Rattle.agreement_rules.specs.Laws.OpeningLaws.{opening_sized}
 use Rattle.agreement_rules.specs.Schedule.{schedule_rule}
 use Rattle.agreement_rules.specs.Laws.ScheduleLaws.{schedule_sized}
 use Rattle.block_rules.specs.Block.{block_length, block_refusal, block_rule}
-use Rattle.block_rules.specs.Laws.BlockLaws.{block_sized}
+use Rattle.block_rules.proofs.BlockLaws.{block_sized}
 use Rattle.closing_rules.specs.Closing.{closing_length, closing_refusal, closing_rule}
-use Rattle.closing_rules.specs.Laws.ClosingLaws.{closing_sized}
+use Rattle.closing_rules.proofs.ClosingLaws.{closing_sized}
 use Rattle.record_layout.specs.OnBytes.{record_in, bytes_after, CalledOn, book_in}
 use Rattle.wheeling_rules.specs.Wheeling.{numbers_in, ByRule, OnBytes, opening_in, ByteOpened, ByteScheduled, ByteBlocked, ByteClosed}
 use Rattle.wheeling_rules.specs.Laws.BytesReadLaws.{room_fits, room_alike, left_there, after_same, no_bytes}

@@ -18,7 +18,7 @@ loop-g-init c = test_start
 pub loop-g-preserved : goal.loop-g-preserved
 loop-g-preserved c =
     let l = c.loop-g in
-    test_step l.invariant (search rules) (c.within-ok.ensures ∙ rw (place_in 8 c.args.t1.balance l.g (search rules), place_in 8 _ l.g (search rules)))
+    test_step l.invariant (search rules) (c.within-ok.ensures ∙ rw (place_in 8 c.args.self.balance l.g (search rules), place_in 8 _ l.g (search rules)))
 
 pub returns : goal.returns
 unfolding creditable within_limits

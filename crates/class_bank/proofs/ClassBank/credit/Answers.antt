@@ -10,8 +10,7 @@ credited-requires c = (c.if-count-le-MOST_BALANCES.true, sym c.takes.ensures ∙
 
 pub returns-then-takes : goal.returns-then-takes
 returns-then-takes c =
-    let tested = c.before in
-    c.credited.ensures ∙ sym (credit_within _ _ _ _ tested.if-count-le-MOST_BALANCES.true (sym tested.takes.ensures ∙ tested.if-takes.true))
+    c.credited.ensures ∙ sym (credit_within _ _ _ _ c.if-count-le-MOST_BALANCES.true (sym c.takes.ensures ∙ c.if-takes.true))
 
 pub returns-else-takes : goal.returns-else-takes
 returns-else-takes c = sym (credit_beyond _ _ _ _ c.if-count-le-MOST_BALANCES.true (sym c.takes.ensures ∙ c.if-takes.false))

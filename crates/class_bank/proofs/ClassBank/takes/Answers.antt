@@ -19,7 +19,7 @@ loop-s-init c = test_start
 pub loop-s-preserved : goal.loop-s-preserved
 loop-s-preserved c =
     let l = c.loop-s in
-    test_step l.invariant (search rules) (c.within-ok.ensures ∙ rw (place_in 24 c.args.t1.balance l.s (omega arith), place_in 24 _ l.s (omega arith)))
+    test_step l.invariant (search rules) (c.within-ok.ensures ∙ rw (place_in 24 c.args.self.balance l.s (omega arith), place_in 24 _ l.s (omega arith)))
 
 pub returns : goal.returns
 unfolding creditable within_limits

@@ -12,8 +12,7 @@ loop-g-init c = fill_start (search rules)
 
 pub loop-g-preserved : goal.loop-g-preserved
 loop-g-preserved c =
-    let start = c.before.before in
-    fill_step c.loop-g.invariant (search rules) (sym (cell_in 8 3 start.args.t1 c.loop-g.g start.args.k (search rules) (search rules)))
+    fill_step c.loop-g.invariant (search rules) (sym (cell_in 8 3 c.args.rows c.loop-g.g c.args.k (search rules) (search rules)))
 
 pub returns : goal.returns
 returns c = fill_done c.loop-g.invariant (search rules)

@@ -14,12 +14,12 @@ returns c =
     let ws = words_in c.args.s.now in
     λ i. record {
       terms = c.load_terms-terms.ensures i;
-      c = c.load_counts-counts.ensures i;
-      c = c.load_agreed-agreed.ensures i;
-      c = c.load_links-links.ensures i;
+      counts = c.load_counts-counts.ensures i;
+      agreed = c.load_agreed-agreed.ensures i;
+      links = c.load_links-links.ensures i;
       schedule = c.load_schedule-schedule.ensures i;
       generators = c.load_generators-generators.ensures i;
-      c = c.load_consumers-consumers.ensures i;
+      consumers = c.load_consumers-consumers.ensures i;
       switch = c.load_switch-switch.ensures i;
       offpeak = (c.load_stocks-offpeak.ensures ∙ sym (offpeak_at ws)) i;
       normal = (c.load_stocks-normal.ensures ∙ sym (normal_at_lem ws)) i;

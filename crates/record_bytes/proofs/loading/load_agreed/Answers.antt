@@ -7,11 +7,9 @@ use Rattle.record_bytes.proofs.loading.load_agreed.Goals as goal
 
 pub returns : goal.returns
 returns c =
-    let filled = c.before.before.before.before in
-    let start = filled.before.before.before in
     (λ i. record {
       kind = c.column-kind.ensures i;
       installed = c.column-installed.ensures i;
       contracted = c.column-contracted.ensures i;
     }) ∙
-    agreed_at_lem (words_in start.args.s.now) _ filled.load_run.ensures
+    agreed_at_lem (words_in c.args.s.now) _ c.load_run.ensures

@@ -10,10 +10,8 @@ use Rattle.record_bytes.proofs.loading.load_run.Goals as goal
 
 pub returns : goal.returns
 returns c =
-    let call = c.before.before in
-    let start = call.before.before.before.before.before in
-    let s = start.args.s.now in
-    let at = start.args.at in
-    let n = length start.args.out.now in
+    let s = c.args.s.now in
+    let at = c.args.at in
+    let n = length c.args.out.now in
     let bytes : at * 8 + n * 8 - at * 8 ≡ n * 8 = omega arith in
-    (rw bytes at call.read8.ensures) ∙ sym (decode_part 8 record_numbers at n s start.requires.1)
+    (rw bytes at c.read8.ensures) ∙ sym (decode_part 8 record_numbers at n s c.requires.1)

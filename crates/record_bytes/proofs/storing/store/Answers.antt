@@ -24,4 +24,4 @@ returns c =
     (laid_then c.store_stocks.ensures
     (laid_then c.store_stocks-2.ensures
     c.store_stocks-3.ensures)))))))))) in
-    (laid_all laid, rw (laid_all laid) (read_back r (shaped r c.well-formed.0.1.1) laid.put.low))
+    (laid_all laid, rw (laid_all laid) (read_back r (shaped r c.well_formed.0.1.1) laid.put.low))

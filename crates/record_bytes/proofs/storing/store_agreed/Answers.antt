@@ -5,6 +5,4 @@ use Rattle.record_bytes.proofs.storing.store_agreed.Goals as goal
 
 pub returns : goal.returns
 returns c =
-    let call = c.before.before in
-    let made = call.before.before.before in
-    rw made.rows-run.ensures at (laid_run {n = 24} (search rules) call.store_run.ensures)
+    rw c.rows-run.ensures at (laid_run {n = 24} (search rules) c.store_run.ensures)

@@ -11,9 +11,9 @@ shape_of-s c = omega (arith, c.store_run-6.ensures.size, c.requires)
 pub returns : goal.returns
 unfolding joined
 returns c =
-    laid_then (laid_run c.store_run-arg-2-1.given.0 c.store_run.ensures)
-    (laid_then (laid_run c.store_run-arg-5-1.given.0 c.store_run-2.ensures)
-    (laid_then (laid_run c.store_run-arg-8-1.given.0 c.store_run-3.ensures)
-    (laid_then (laid_run c.store_run-arg-11-1.given.0 c.store_run-4.ensures)
-    (laid_then (laid_run c.store_run-arg-14-1.given.0 c.store_run-5.ensures)
-    (laid_last (laid_run c.store_run-arg-17-1.given.0 c.store_run-6.ensures))))))
+    laid_then (laid_run {n = 16} (search rules) c.store_run.ensures)
+    (laid_then (laid_run {n = 16} (search rules) c.store_run-2.ensures)
+    (laid_then (laid_run {n = 16} (search rules) c.store_run-3.ensures)
+    (laid_then (laid_run {n = 16} (search rules) c.store_run-4.ensures)
+    (laid_then (laid_run {n = 16} (search rules) c.store_run-5.ensures)
+    (laid_last (laid_run {n = 16} (search rules) c.store_run-6.ensures))))))

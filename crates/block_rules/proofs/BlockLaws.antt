@@ -16,13 +16,13 @@ use Rattle.lists.specs.Laws.RefusalsLaws.{first_head, first_tail, first_or}
 use Rattle.energy.specs.Limits.{most_reading, most_month_blocks, most_unit_blocks}
 use Rattle.record.specs.Plan.{deemed}
 use Rattle.block_rules.specs.Settlement.{set_off}
-use Rattle.block_rules.specs.Laws.SettlementLaws.{entry_split, exit_split}
+use Rattle.block_rules.proofs.SettlementLaws.{entry_split, exit_split}
 use Rattle.record.specs.Book.{Book}
 use Rattle.record.specs.Sound.{bank_total, pending_total, open_total}
 use Rattle.record.specs.Laws.CalledLaws.{Keeps}
 use Rattle.record.specs.Laws.SoundLaws.{Facts, GeneratorFacts, ConsumerFacts}
 use Rattle.block_rules.specs.Block.{underdrawn_sum, generator_after_block, consumer_after_block, after_block, block_length, entry_of, exit_of, block_number, block_refusal, block_rule}
-use Rattle.block_rules.specs.Laws.BlockClasses.{classes_after_lem, no_fourth}
+use Rattle.block_rules.proofs.BlockClasses.{classes_after_lem, no_fourth}
 
 -- a block to which no number applies
 pub record Enterable (entry exit : List ℕ) (size : ℕ) (b : Book) : Type 0 where

@@ -28,7 +28,7 @@ use Rattle.record.specs.Sound.{limit, bank_total, pending_total, open_total}
 use Rattle.record.specs.Laws.CalledLaws.{Keeps}
 use Rattle.record.specs.Laws.SoundLaws.{Facts, GeneratorFacts, ConsumerFacts}
 use Rattle.closing_rules.specs.Drawing.{stock_at, drawn_at, missing_at}
-use Rattle.closing_rules.specs.Laws.DrawingLaws as Turns
+use Rattle.closing_rules.proofs.DrawingLaws as Turns
 use Rattle.closing_rules.specs.Closing.{cycle_ends, lapse_due, source, turn, sources_of, undivided, stocks_of, taken_up, charge_of, credited, serving, stock, want, drawn_of, bank_left, supplied_of, charge, drawn, supplied, bank_before_lapse, lapses, gone_after, lapsed, bank_after, generator_after_closing, consumer_after_closing, after_closing, closing_length, closing_number, closing_refusal, closing_rule}
 
 -- ---- who serves a class

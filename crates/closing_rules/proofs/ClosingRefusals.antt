@@ -11,7 +11,7 @@ use Rattle.record.specs.declared.Record.{Record}
 use Rattle.record.specs.declared.Terms.{Terms}
 use Rattle.record.specs.declared.Counts.{Counts}
 use Rattle.closing_rules.specs.Closing.{closing_length, closing_number, closing_refusal, closing_rule}
-use Rattle.closing_rules.specs.Laws.ClosingLaws.{closing_sized}
+use Rattle.closing_rules.proofs.ClosingLaws.{closing_sized}
 
 -- on a stored record, its terms and counts being read apart
 pub record_refusal : (r : Record) {t : Terms} {n : Counts} (size : ℕ) → t ≡ r.terms → n ≡ r.counts → sound (figures r) ≡ true →

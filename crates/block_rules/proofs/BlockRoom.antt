@@ -15,9 +15,9 @@ use Rattle.output_lists.specs.Laws.Bounds.{Moderate}
 use Rattle.output_lists.specs.Laws.BoundsLaws.{moderate_table, moderate_rows, no_more, and_then, moderate_joined}
 use Rattle.record.specs.Plan.{deemed}
 use Rattle.block_rules.specs.Delivery.{counted, unaccounted, part_of, loss_of, delivered, scheduled_at_exit, at_exit}
-use Rattle.block_rules.specs.Laws.DeliveryLaws.{counted_le, loss_of_le}
+use Rattle.block_rules.proofs.DeliveryLaws.{counted_le, loss_of_le}
 use Rattle.block_rules.specs.Settlement.{set_off, underdrawn, shortfall, remainder, block_lists, block_output}
-use Rattle.block_rules.specs.Laws.SettlementLaws.{set_off_le, shortfall_le, entry_split, exit_split}
+use Rattle.block_rules.proofs.SettlementLaws.{set_off_le, shortfall_le, entry_split, exit_split}
 use Rattle.record.specs.Stored.{plan_of, figures}
 use Rattle.record.specs.Laws.SoundLaws.{Facts, kw_most}
 use Rattle.record.specs.declared.Record.{Record}

@@ -8,7 +8,7 @@ use Rattle.output_lists.specs.Laws.BoundsLaws.{moderate_table, moderate_rows, no
 use Rattle.record.specs.Book.{Book}
 use Rattle.record.specs.Laws.SoundLaws.{Facts, injected_most, metered_most}
 use Rattle.closing_rules.specs.Closing.{charge, drawn, supplied, lapsed, bank_after, closing_lists, closing_output}
-use Rattle.closing_rules.specs.Laws.ClosingLaws.{drawn_had, generator_split, consumer_split}
+use Rattle.closing_rules.proofs.ClosingLaws.{drawn_had, generator_split, consumer_split}
 
 -- what a closing enters is part of what was pending, banked or open
 module _ (b : Book) (f : Facts b) where

@@ -24,12 +24,12 @@ use Rattle.agreement_rules.specs.OpenedOn.{OpenedOn}
 use Rattle.agreement_rules.specs.Laws.OpeningLaws.{permitted_accepted}
 use Rattle.agreement_rules.specs.Schedule.{schedule_rule}
 use Rattle.block_rules.specs.Block.{block_rule}
-use Rattle.block_rules.specs.Laws.BlockAccepted.{block_output_moderate}
+use Rattle.block_rules.proofs.BlockAccepted.{block_output_moderate}
 use Rattle.closing_rules.specs.Closing.{closing_rule}
-use Rattle.closing_rules.specs.Laws.ClosingRoom.{closing_output_moderate}
+use Rattle.closing_rules.proofs.ClosingRoom.{closing_output_moderate}
 use Rattle.book.specs.BookCalls.{Call, schedule, block, closing, rule_of, next, book_after, book_answers}
 use Rattle.book.specs.Trace.{Ask, call_of, Given, Done, Trace, trace_none, trace_one, last_record}
-use Rattle.book.specs.Laws.Demand3Proof.{Kept, next_kept, opened_kept, demand_3}
+use Rattle.book.proofs.Demand3Proof.{Kept, next_kept, opened_kept, demand_3}
 use Rattle.record_layout.specs.OnBytes.{record_in, bytes_after, book_in}
 use Rattle.wheeling_rules.specs.Wheeling.{numbers_in, ByRule, OnBytes, opening_in, ByteOpened, CalledOnBytes}
 use Rattle.wheeling_rules.specs.Laws.BytesReadLaws.{numbers_encode, numbers_none, no_bytes}

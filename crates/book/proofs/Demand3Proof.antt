@@ -24,10 +24,10 @@ use Rattle.agreement_rules.specs.Laws.OpeningLaws.{permitted_accepted, opened_fa
 use Rattle.agreement_rules.specs.Schedule.{after_schedule, schedule_rule}
 use Rattle.agreement_rules.specs.Laws.ScheduleLaws.{schedule_keeps}
 use Rattle.block_rules.specs.Block.{after_block, entry_of, exit_of, block_rule}
-use Rattle.block_rules.specs.Laws.BlockLaws.{block_keeps, block_setoff, block_drawn}
+use Rattle.block_rules.proofs.BlockLaws.{block_keeps, block_setoff, block_drawn}
 use Rattle.closing_rules.specs.Closing.{after_closing, closing_output, closing_length, closing_rule, bank_before_lapse, supplied}
-use Rattle.closing_rules.specs.Laws.ClosingLaws.{closing_keeps, closing_setoff, closing_drawn, before_lapse_is, none_idle, none_idle_class}
-use Rattle.closing_rules.specs.Laws.ClosingOutput.{closing_length_lem, lapsed_at_lem, bank_at_lem, supplied_at_lem}
+use Rattle.closing_rules.proofs.ClosingLaws.{closing_keeps, closing_setoff, closing_drawn, before_lapse_is, none_idle, none_idle_class}
+use Rattle.closing_rules.proofs.ClosingOutput.{closing_length_lem, lapsed_at_lem, bank_at_lem, supplied_at_lem}
 use Rattle.book.specs.BookCalls.{Call, schedule, block, closing, rule_of, next, book_after, book_answers}
 use Rattle.book.specs.Trace.{Ask, ask_schedule, ask_block, ask_closing, call_of, lent_of, Given, Done, Trace, trace_none, trace_one, last_record}
 use Rattle.book.specs.Demand3.{at, bank_in, supplied_in, Match, Matches, match_none, match_one, NoIdleBank, NotIdleIn, NoIdleBanks, idle_none, idle_one, Demand3, Claim}

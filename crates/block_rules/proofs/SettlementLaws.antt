@@ -10,7 +10,7 @@ use Rattle.order_rules.specs.Laws.SettleLaws.{given_sum, given_le, earlier_first
 use Rattle.record.specs.Plan.{Plan, standing, order}
 use Rattle.block_rules.specs.Delivery.{unaccounted, part_of, loss_of, delivered, at_exit}
 use Rattle.record.specs.Laws.PlanLaws.{order_within}
-use Rattle.block_rules.specs.Laws.DeliveryLaws.{counted_le, parts, loss_of_le}
+use Rattle.block_rules.proofs.DeliveryLaws.{counted_le, parts, loss_of_le}
 use Rattle.block_rules.specs.Settlement.{set_off, after_set_off, underdrawn, shortfall, remainder}
 
 module _ (p : Plan) (E : ℕ → ℕ) (c r : ℕ) where

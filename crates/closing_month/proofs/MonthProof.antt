@@ -20,12 +20,12 @@ use Rattle.agreement_rules.specs.Laws.ScheduleLaws.{schedule_keeps}
 use Rattle.block.specs.Laws.Published.{Published}
 use Rattle.block.specs.Laws.BlockPublishes.{block_publishes}
 use Rattle.closing_rules.specs.Closing.{stocks_of, taken_up, after_closing, closing_rule}
-use Rattle.closing_rules.specs.Laws.ClosingLaws.{closing_keeps, pending_total_lem, none_pending, none_open}
-use Rattle.closing_rules.specs.Laws.ClosingOutput.{open_at}
-use Rattle.closing_rules.specs.Laws.ClosingRefusals.{facts}
+use Rattle.closing_rules.proofs.ClosingLaws.{closing_keeps, pending_total_lem, none_pending, none_open}
+use Rattle.closing_rules.proofs.ClosingOutput.{open_at}
+use Rattle.closing_rules.proofs.ClosingRefusals.{facts}
 use Rattle.book.specs.Trace.{Ask, ask_schedule, ask_block, ask_closing, Given, Done, Trace, trace_none, trace_one, last_record}
 use Rattle.book.specs.Demand3.{at}
-use Rattle.book.specs.Laws.Demand3Proof.{call_of_lem, starts}
+use Rattle.book.proofs.Demand3Proof.{call_of_lem, starts}
 use Rattle.closing_month.specs.Month.{entered, month_next, month_from, of_class, sum_over, pending_from, open_from, TakenUp, MonthClaim, ClosingClaim}
 
 -- ---- by class

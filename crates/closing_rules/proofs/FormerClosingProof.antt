@@ -12,10 +12,10 @@ use Rattle.record.specs.Plan.{suppliers}
 use Rattle.record.specs.Hours.{classes, peak, before_switch}
 use Rattle.record.specs.Book.{Book, ClassStocks, by_hours}
 use Rattle.closing_rules.specs.Drawing.{stock_at, missing_at}
-use Rattle.closing_rules.specs.Laws.DrawingLaws as Turns
+use Rattle.closing_rules.proofs.DrawingLaws as Turns
 use Rattle.closing_rules.specs.Closing.{lapse_due, source, turn, sources_of, undivided, stocks_of, taken_up, charge_of, credited, serving, stock, want, drawn_of, bank_left, supplied_of, charge, drawn, supplied, bank_before_lapse, lapses, gone_after, lapsed, bank_after, generator_after_closing, consumer_after_closing, after_closing, closing_lists, closing_output}
-use Rattle.closing_rules.specs.Laws.ClosingLaws.{serving_at, want_at, stock_at_lem, consumer_drawn, pending_below, stock_below, want_below, left_none, supplied_none}
-use Rattle.closing_rules.specs.Laws.PeakAlone.{of_peak, peak_alone}
+use Rattle.closing_rules.proofs.ClosingLaws.{serving_at, want_at, stock_at_lem, consumer_drawn, pending_below, stock_below, want_below, left_none, supplied_none}
+use Rattle.closing_rules.proofs.PeakAlone.{of_peak, peak_alone}
 use Rattle.closing_rules.specs.FormerClosing.{former_charge, former_credited, former_open, former_banks, former_drawn, former_bank_before_lapse, former_supplied, former_lapses, former_gone_after, former_lapsed, former_bank_after, former_generator, former_consumer, former_after_closing, former_output, FormerEnd, FormerClaim}
 
 module _ (b : Book) (old : by_hours b ≡ false) where

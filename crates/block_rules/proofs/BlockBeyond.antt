@@ -8,9 +8,9 @@ use Rattle.order_rules.specs.Laws.SettleLaws.{unmet_le}
 use Rattle.record.specs.Plan.{Plan, deemed, order}
 use Rattle.block_rules.specs.Delivery.{unaccounted, loss_of, delivered, scheduled_at_exit, at_exit}
 use Rattle.block_rules.specs.Laws.Deliverable.{Deliverable}
-use Rattle.block_rules.specs.Laws.DeliveryLaws.{part_of_no_kw}
+use Rattle.block_rules.proofs.DeliveryLaws.{part_of_no_kw}
 use Rattle.block_rules.specs.Settlement.{set_off, after_set_off, underdrawn, shortfall, remainder}
-use Rattle.block_rules.specs.Laws.SettlementLaws.{set_off_le, shortfall_le}
+use Rattle.block_rules.proofs.SettlementLaws.{set_off_le, shortfall_le}
 use Rattle.block_rules.specs.Laws.Settleable.{Settleable}
 
 module _ (p : Plan) (g e c : ℕ) (none : p.kw g c ≡ 0) where

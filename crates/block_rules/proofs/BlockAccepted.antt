@@ -11,9 +11,9 @@ use Rattle.record.specs.Called.{number_on}
 use Rattle.record.specs.Laws.CalledLaws.{accepted_sound, number_sound, record_facts}
 use Rattle.record.specs.declared.Record.{Record}
 use Rattle.block_rules.specs.Block.{block_length, entry_of, exit_of, block_rule}
-use Rattle.block_rules.specs.Laws.BlockLaws.{Enterable, accepted_enterable}
-use Rattle.block_rules.specs.Laws.BlockRoom.{output_moderate}
-use Rattle.block_rules.specs.Laws.BlockSettleable.{settleable}
+use Rattle.block_rules.proofs.BlockLaws.{Enterable, accepted_enterable}
+use Rattle.block_rules.proofs.BlockRoom.{output_moderate}
+use Rattle.block_rules.proofs.BlockSettleable.{settleable}
 
 module _ (r : Record) (entry exit : List ℕ) (size : ℕ) (z : number_on (block_rule entry exit size) r ≡ 0) where
   pub facts : Facts (figures r)

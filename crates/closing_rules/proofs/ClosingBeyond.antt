@@ -8,7 +8,7 @@ use Rattle.record.specs.Laws.SoundLaws.{Facts, gen_beyond, con_beyond}
 use Rattle.record.specs.declared.GeneratorTerms.{GeneratorTerms}
 use Rattle.record.specs.declared.ConsumerTerms.{ConsumerTerms}
 use Rattle.closing_rules.specs.Closing.{charge, drawn, supplied, lapsed, bank_after}
-use Rattle.closing_rules.specs.Laws.ClosingLaws.{generator_split, consumer_split}
+use Rattle.closing_rules.proofs.ClosingLaws.{generator_split, consumer_split}
 
 module _ (b : Book) (f : Facts b) where
   module _ (g : ℕ) (h : b.plan.G ≤ g) where

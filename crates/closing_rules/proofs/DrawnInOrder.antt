@@ -12,8 +12,8 @@ use Rattle.record.specs.Hours.{classes, peak}
 use Rattle.record.specs.Book.{Book}
 use Rattle.closing_rules.specs.Drawing.{stock_at}
 use Rattle.closing_rules.specs.Closing.{source, turn, sources_of, serving, stock, want, drawn_of}
-use Rattle.closing_rules.specs.Laws.DrawingLaws as Turns
-use Rattle.closing_rules.specs.Laws.ClosingLaws.{serving_at, supplier_in}
+use Rattle.closing_rules.proofs.DrawingLaws as Turns
+use Rattle.closing_rules.proofs.ClosingLaws.{serving_at, supplier_in}
 
 -- energy of class i serves class k
 abbrev pub Serves : ℕ → ℕ → Type 0

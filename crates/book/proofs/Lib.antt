@@ -1,0 +1,2 @@
+pub mod Demand3Proof
+pub mod BenchCases
