@@ -27,7 +27,7 @@ loop-c-preserved c =
     let h = c.requires in
     let i = c.loop-c.invariant in
     elim c.if-kw-c-gt0.branch [
-      then-kw-c-gt0 w ↦ rw (w.out-is, w.sum-is, w.last-is) (sharing_step h i c.loop-c-test.true)
+      | then-kw-c-gt0 w ↦ rw (w.out-is, w.sum-is, w.last-is) (sharing_step h i c.loop-c-test.true)
       | else-kw-c-gt0 w ↦ rw (w.out-is, w.sum-is, w.last-is) (sharing_skip h i c.loop-c-test.true w.if-kw-c-gt0.false)
     ]
 

@@ -1,5 +1,5 @@
 -- Program `wheel` reads at most one byte past 64 KiB: what is printed for a text depends on no byte after that. Assumes nothing.
-use Rattle.std.specs.Prelude.{ℕ, ◌-◌, ◌≤◌, ◌<◌, ◌≡◌, refl, Bool, true, false, List, eqb, length, take}
+use Rattle.std.specs.Prelude.{ℕ, ◌-◌, ◌≤◌, ◌<◌, ◌≡◌, refl, Bool, true, false, List, length, take}
 use Rattle.std.proofs.Common.{sym, ap, ◌∙◌, ⊎_elim, eq-zero-or-pos, arith, ne_eqb, take_all, take-take, length-take-le}
 use Rattle.table_text.specs.TableText.{digits, decimal, separator_after, name, names, names_line}
 use Rattle.table.specs.Table.{starts_with_names}

@@ -1,6 +1,5 @@
 -- The loop of `wheel_print::put_word`: what lasts from turn to turn, and what falls.
-use Prim.Native.Nat.{◌-◌}
-use lib.ListN.{length}
+use Rattle.std.proofs.Common.{◌-◌, length}
 use Rattle.wheel_print.specs.Laws.PrintingLaws.{Wording}
 use Rattle.wheel_print.proofs.put_word.Given as goal
 

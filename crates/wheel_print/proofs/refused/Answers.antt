@@ -1,12 +1,8 @@
 -- `wheel_print::refused` meets its contract: the word and the line of one number. Assumes nothing.
-use borrow.Author.Rules.{rules}
 use Rattle.lists.specs.Tables.{table}
 use Rattle.wheel_rules.specs.PrintedWords.{bytes}
 use Rattle.wheel_rules.specs.Display.{refused_text}
 use Rattle.wheel_print.proofs.refused.Goals as goal
-
-slice_aggregate_word_and_line_2 : goal.slice-aggregate-word-and-line-2
-slice_aggregate_word_and_line_2 c = search rules
 
 pub returns : goal.returns
 unfolding refused_text bytes table
