@@ -29,9 +29,9 @@ returns c =
     let links = c.links_from-links in
     let schedule = c.first_schedule-schedule in
     let generators = c.no_injection-generators in
-    let consumers = c.no-consumption in
-    let switch = c.first-switch in
-    let stocks = c.no-stocks in
+    let consumers = c.no_consumption-consumers in
+    let switch = c.first_switch-first in
+    let stocks = c.no_stocks-stocks in
     let r : Record =
     record {
       terms = terms.result;
