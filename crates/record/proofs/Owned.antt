@@ -1,5 +1,4 @@
 -- What a record by value tells of its lists: they have the lengths of their type. Assumes nothing.
-use Prim.Native.Nat.{ℕ}
 use denote.Shadow.{shadow}
 use denote.RattleType.{Valss, owns}
 use denote.Struct.Declared.{shape}

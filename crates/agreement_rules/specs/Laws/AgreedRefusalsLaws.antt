@@ -9,7 +9,7 @@ use Rattle.lists.specs.Sums.{sum}
 use Rattle.lists.specs.Laws.SumsLaws.{sum_cong}
 use Rattle.lists.specs.Tests.{some, within}
 use Rattle.lists.specs.Laws.TestsLaws.{some_rows, some_same, within_high, and_left, and_right, chain_at}
-use Rattle.lists.specs.Pairs.{place, cell}
+use Rattle.lists.specs.Pairs.{cell}
 use Rattle.lists.specs.Laws.PairsLaws.{place_in, cell_in}
 use Rattle.lists.specs.Refusals.{first_of}
 use Rattle.energy.specs.Limits.{most_generators, most_consumers, last_kind, most_capacity, most_loss, most_rank, most_switch}

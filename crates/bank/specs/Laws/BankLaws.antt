@@ -1,17 +1,14 @@
 -- The bank's own calls, steps 1, 2 and 4 of a closing, as the code goes through them. Assumes nothing.
-use Rattle.std.specs.Prelude.{ℕ, ◌+◌, ◌-◌, ◌*◌, ◌≤◌, ◌<◌, ◌≡◌, refl, Bool, true, false, List, leb, length, get_or, set, replicate}
+use Rattle.std.specs.Prelude.{ℕ, ◌+◌, ◌-◌, ◌*◌, ◌≤◌, ◌<◌, ◌≡◌, refl, Bool, true, false, List, length, get_or, replicate}
 use Rattle.std.proofs.Math.Path.{sym, fun_ext}
-use Rattle.std.proofs.Common.{ap, ◌∙◌, ⊎_elim, eq-zero-or-pos, arith, leb-true, le-leb}
+use Rattle.std.proofs.Common.{ap, ◌∙◌, ⊎_elim, eq-zero-or-pos, arith, le-leb}
 use Rattle.std.proofs.lemmas.Bool.{lt-leb}
 use Rattle.std.proofs.Math.ListN.{get_or-eq_default}
 use Rattle.lists.specs.Tables.{table}
-use Rattle.lists.specs.Laws.TablesLaws.{is_table, Filling, fill_start, fill_step, fill_here, fill_done}
+use Rattle.lists.specs.Laws.TablesLaws.{is_table, fill_done}
 use Rattle.lists.specs.Pairs.{place}
 use Rattle.lists.specs.Laws.PairsLaws.{place_in, place_out, place_table}
-use Rattle.energy.specs.Energy.{portion_up}
-use Rattle.lists.specs.Laws.TestsLaws.{and_left, and_right, and_both, all_at, all_from}
 use Rattle.energy.specs.Limits.{most_generators, most_rate, most_figure}
-use Rattle.energy.specs.Laws.EnergyLaws.{portion_le}
 use Rattle.order_rules.specs.Settle.{given, kept, unmet}
 use Rattle.order_rules.specs.Laws.SettleLaws.{settle_has}
 use Rattle.order.specs.Laws.KeptOrder.{turns_of}

@@ -1,6 +1,6 @@
 -- Step 1 of a closing on an array of w balances, and the laws by which the loops that test and credit it are proved: one bank of 8 balances before
 -- the switch month, one of 24 by hours. Assumes nothing.
-use Rattle.std.specs.Prelude.{ℕ, ◌+◌, ◌-◌, ◌≤◌, ◌<◌, ◌≡◌, refl, Bool, true, ◌&&◌, List, leb, length, get_or, set, replicate}
+use Rattle.std.specs.Prelude.{ℕ, ◌+◌, ◌-◌, ◌≤◌, ◌<◌, ◌≡◌, Bool, true, ◌&&◌, List, leb, length, get_or, set, replicate}
 use Rattle.std.proofs.Common.{arith}
 use borrow.Author.Tests.{leb-true, le-leb}
 use Rattle.lists.specs.Tests.{all}

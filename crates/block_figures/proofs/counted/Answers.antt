@@ -2,7 +2,6 @@
 use Prim.Native.Nat.{min}
 use mathlib.Core.Path.{◌≡◌}
 use native.Mathlib.Omega.{arith}
-use borrow.Author.Rules.{rules}
 use Rattle.energy.specs.Energy.{quarter_hour}
 use Rattle.block_rules.specs.Delivery.{counted_of}
 use Rattle.block_figures.specs.Laws.CountingLaws.{counted_idle, counted_deemed, counted_smaller}

@@ -1,6 +1,5 @@
 -- `block_figures::gap` is rule 4 less what is delivered: each difference is exact. Assumes nothing.
 use native.Mathlib.Omega.{arith}
-use borrow.Author.Rules.{rules}
 use Rattle.energy.specs.Laws.EnergyLaws.{loss_le}
 use Rattle.block_figures.specs.Laws.GapLaws.{gap_deemed, gap_scheduled}
 use Rattle.block_figures.proofs.gap.Goals as goal

@@ -1,12 +1,11 @@
 -- `block_figures::scheduled_kw` is the sum of the row, and no sum on the way is over the limit. Assumes nothing.
-use Prim.Native.Nat.{ℕ, ◌+◌, ◌-◌, ◌≤◌}
+use Prim.Native.Nat.{ℕ, ◌+◌}
 use mathlib.Core.Path.{◌≡◌, sym, ◌∙◌, ap}
 use native.Mathlib.Omega.{arith}
 use borrow.Author.Rules.{rules}
 use lib.ListN.{get_or}
 use Rattle.lists.specs.Pairs.{place}
 use Rattle.lists.specs.Laws.PairsLaws.{place_in}
-use Rattle.lists.specs.Sums as sums
 use Rattle.lists.specs.Sums.{sum}
 use Rattle.lists.specs.Laws.SumsLaws.{sum_none, sum_more, sum_to}
 use Rattle.block_figures.proofs.scheduled_kw.Goals as goal

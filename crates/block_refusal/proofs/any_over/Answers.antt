@@ -2,10 +2,8 @@
 use mathlib.Core.Path.{ap}
 use Rattle.block_rules.specs.Laws.BlockRefusals.{over_limit}
 use Rattle.energy.specs.Limits.{most_reading}
-use Rattle.lists.specs.Laws.TestsLaws.{Looking, look_start, look_step, look_done}
-use lib.ListN.{length, get_or}
+use Rattle.lists.specs.Laws.TestsLaws.{look_start, look_step, look_done}
 use lib.Dec.{ltb}
-use Prim.Native.Nat.{◌-◌}
 use borrow.Author.Rules.{rules}
 use Rattle.block_refusal.proofs.any_over.Goals as goal
 

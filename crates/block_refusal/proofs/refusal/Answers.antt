@@ -4,7 +4,6 @@ use Rattle.block_rules.specs.Block.{block_length}
 use Rattle.block_rules.specs.Laws.BlockRefusals.{number_misfit, number_fit}
 use native.Mathlib.Nat.{mul-le-mul}
 use native.Mathlib.Omega.{arith}
-use borrow.Author.Rules.{rules}
 use Rattle.block_refusal.proofs.refusal.Goals as goal
 
 pub overflow_mul-n : goal.overflow_mul-n

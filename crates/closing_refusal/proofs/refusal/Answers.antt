@@ -4,7 +4,6 @@ use native.Mathlib.Nat.{mul-le-mul}
 use native.Mathlib.Omega.{arith}
 use Rattle.lists.specs.Refusals.{first_of}
 use Rattle.closing_rules.specs.Closing.{closing_length, closing_number}
-use borrow.Author.Rules.{rules}
 use Rattle.closing_refusal.proofs.refusal.Goals as goal
 
 pub overflow_mul-sized : goal.overflow_mul-sized

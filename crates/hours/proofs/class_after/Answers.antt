@@ -2,7 +2,6 @@
 use Prim.Native.Nat.{ℕ}
 use mathlib.Core.Path.{◌≡◌}
 use mathlib.Core.Bool.{Bool, true, false, ◌||◌}
-use borrow.Author.Rules.{rules}
 use Rattle.lists.specs.Tests.{within}
 use Rattle.record.specs.Hours.{off_peak, normal, peak, slot_after, class_of_slot}
 use Rattle.hours.proofs.class_after.Goals as goal

@@ -7,7 +7,7 @@ use Rattle.lists.specs.Tables.{table}
 use Rattle.lists.specs.Tests.{within}
 use Rattle.lists.specs.Pairs.{place}
 use Rattle.lists.specs.Laws.PairsLaws.{place_out, cell_out, place_table, cell_pairs}
-use Rattle.record.specs.Book.{Book, ClassStocks, no_injection, no_consumption, no_stocks}
+use Rattle.record.specs.Book.{Book, no_injection, no_consumption, no_stocks}
 use Rattle.record.specs.Stored.{generator_at, consumer_at, class_at, hours_of, plan_of, figures, stored_generators, stored_consumers, stored_stocks, stored, zeros}
 use Rattle.record.specs.Sound.{counts_sound, sound}
 use Rattle.record.specs.Laws.SoundLaws.{Cut}

@@ -1,7 +1,6 @@
 -- `record_numbers::add_at` meets its contract: the sum with w is written where the number stands. Assumes nothing.
 use mathlib.Core.Path.{ap, ◌∙◌}
 use lib.ListN.{set}
-use borrow.Author.Rules.{rules}
 use Rattle.record_places.specs.RecordSize.{words_in}
 use Rattle.record_numbers.proofs.add_at.Goals as goal
 

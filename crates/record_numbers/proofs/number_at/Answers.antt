@@ -1,6 +1,5 @@
 -- `record_numbers::number_at` meets its contract: the eight bytes there are the number's. Assumes nothing.
 use mathlib.Core.Path.{sym, ◌∙◌}
-use borrow.Author.Rules.{rules}
 use Rattle.codec.specs.Laws.BytesLaws.{decode_at}
 use Rattle.record_places.specs.RecordSize.{record_numbers}
 use Rattle.record_numbers.proofs.number_at.Goals as goal

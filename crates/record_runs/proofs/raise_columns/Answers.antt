@@ -1,10 +1,6 @@
 -- `record_runs::raise_columns` meets its contract: the numbers passed are raised by the sums of their columns. Assumes nothing.
-use Prim.Native.Nat.{◌-◌, ◌≤◌}
 use mathlib.Core.Path.{◌∙◌}
 use native.Mathlib.Omega.{arith}
-use borrow.Author.Rules.{rules}
-use Rattle.record_layout.specs.Laws.NumbersRaised.{from}
-use Rattle.record_runs.specs.Laws.Raise.{column_sum, Raised}
 use Rattle.record_runs.specs.Laws.RaiseLaws.{none_raised, one_more, all_raised, next_low, column_cap}
 use Rattle.record_runs.proofs.raise_columns.Goals as goal
 

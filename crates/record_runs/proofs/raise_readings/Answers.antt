@@ -1,11 +1,6 @@
 -- `record_runs::raise_readings` meets its contract: the numbers passed are raised. Assumes nothing.
-use Prim.Native.Nat.{◌-◌, ◌≤◌}
 use mathlib.Core.Path.{◌∙◌}
 use native.Mathlib.Omega.{arith}
-use lib.ListN.{get_or}
-use borrow.Author.Rules.{rules}
-use Rattle.record_layout.specs.Laws.NumbersRaised.{from}
-use Rattle.record_runs.specs.Laws.Raise.{Raised}
 use Rattle.record_runs.specs.Laws.RaiseLaws.{none_raised, one_more, all_raised, next_low}
 use Rattle.record_runs.proofs.raise_readings.Goals as goal
 

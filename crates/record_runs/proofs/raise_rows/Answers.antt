@@ -1,10 +1,6 @@
 -- `record_runs::raise_rows` meets its contract: the numbers passed are raised by the sums of their rows. Assumes nothing.
-use Prim.Native.Nat.{◌-◌, ◌≤◌}
 use mathlib.Core.Path.{◌∙◌}
 use native.Mathlib.Omega.{arith}
-use borrow.Author.Rules.{rules}
-use Rattle.record_layout.specs.Laws.NumbersRaised.{from}
-use Rattle.record_runs.specs.Laws.Raise.{row_sum, Raised}
 use Rattle.record_runs.specs.Laws.RaiseLaws.{row_within, none_raised, one_more, all_raised, next_low, row_cap}
 use Rattle.record_runs.proofs.raise_rows.Goals as goal
 

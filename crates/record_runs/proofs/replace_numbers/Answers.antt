@@ -1,11 +1,6 @@
 -- `record_runs::replace_numbers` meets its contract: the numbers passed are those of the list. Assumes nothing.
-use Prim.Native.Nat.{◌+◌, ◌-◌, ◌≤◌}
 use mathlib.Core.Path.{refl, ◌∙◌}
 use native.Mathlib.Omega.{arith}
-use lib.ListN.{get_or}
-use borrow.Author.Rules.{rules}
-use Rattle.record_layout.specs.Laws.NumbersRaised.{from}
-use Rattle.record_runs.specs.Laws.Raise.{Replaced}
 use Rattle.record_runs.specs.Laws.RaiseLaws.{none_replaced, one_replaced, all_replaced}
 use Rattle.record_runs.proofs.replace_numbers.Goals as goal
 

@@ -1,11 +1,9 @@
 -- `record_runs::row_sum` meets its contract: the sum so far is that of the numbers passed, each at most `most_figure`. Assumes nothing.
-use Prim.Native.Nat.{◌+◌, ◌*◌, ◌-◌}
+use Prim.Native.Nat.{◌+◌, ◌*◌}
 use mathlib.Core.Path.{refl}
 use native.Mathlib.Omega.{arith}
-use lib.ListN.{get_or}
 use borrow.Author.Rules.{rules}
-use Rattle.lists.specs.Laws.SumsLaws.{Summing, sum_start, sum_step, sum_done}
-use Rattle.energy.specs.Limits.{most_figure}
+use Rattle.lists.specs.Laws.SumsLaws.{sum_start, sum_step, sum_done}
 use Rattle.record_runs.proofs.row_sum.Goals as goal
 
 pub loop-c-init : goal.loop-c-init

@@ -1,5 +1,4 @@
 -- `sound_items::agreed_sound` meets its contract: it is the definition of `agreed_sound`, test by test.
-use Rattle.std.proofs.Common.{rules}
 use Rattle.record.specs.Sound.{agreed_sound}
 use Rattle.sound_items.specs.Laws.SoundTests.{within_both}
 use Rattle.sound_items.proofs.agreed_sound.Goals as goal

@@ -1,5 +1,5 @@
 -- `sound_items::consumer_sound` meets its contract: no sum of five capped terms wraps, and it compares with metered as the whole sum does.
-use Rattle.std.proofs.Common.{true, refl, rules}
+use Rattle.std.proofs.Common.{true, refl}
 use Rattle.record.specs.Sound.{consumer_sound}
 use Rattle.sound_items.specs.Laws.TotalsBeyondLaws.{consumer_beyond}
 use Rattle.sound_items.specs.Laws.CappedLaws.{capped_equation, clip_add}

@@ -1,5 +1,4 @@
 -- `sound_items::counts_sound` meets its contract: it is the definition of `counts_sound`, test by test.
-use Rattle.std.proofs.Common.{rules}
 use Rattle.sound_items.specs.Laws.SoundTests.{counts_test}
 use Rattle.record.specs.Sound.{counts_sound}
 use Rattle.sound_items.proofs.counts_sound.Goals as goal

@@ -1,5 +1,5 @@
 -- `sound_items::generator_sound` meets its contract: no sum of nine capped terms wraps, and it compares with injected as the whole sum does.
-use Rattle.std.proofs.Common.{true, refl, rules}
+use Rattle.std.proofs.Common.{true, refl}
 use Rattle.record.specs.Sound.{generator_sound}
 use Rattle.sound_items.specs.Laws.TotalsBeyondLaws.{generator_beyond}
 use Rattle.sound_items.specs.Laws.CappedLaws.{capped_equation, clip_add}

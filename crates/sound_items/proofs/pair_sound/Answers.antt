@@ -1,5 +1,4 @@
 -- `sound_items::pair_sound` meets its contract: it is the definition of `pair_sound`, test by test.
-use Rattle.std.proofs.Common.{rules}
 use Rattle.record.specs.Sound.{pair_sound}
 use Rattle.sound_items.proofs.pair_sound.Goals as goal
 

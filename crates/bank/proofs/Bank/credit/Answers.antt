@@ -1,6 +1,5 @@
 -- `bank::Bank::credit` is step 1 within the bank's limits, by the two cases of their test. Assumes nothing.
 use mathlib.Core.Path.{sym, ◌∙◌}
-use borrow.Author.Rules.{rules}
 use Rattle.bank.specs.Laws.BankLaws.{credit_within, credit_beyond}
 use Rattle.bank.proofs.Bank.credit.Goals as goal
 

@@ -1,9 +1,8 @@
 -- `bank::Bank::credited` is step 1: g generators are charged and credited. Assumes nothing.
-use Prim.Native.Nat.{◌-◌, ◌≤◌}
 use mathlib.Core.Path.{refl}
 use native.Mathlib.Omega.{arith}
 use borrow.Author.Rules.{rules}
-use Rattle.bank.specs.Laws.CreditLaws.{Crediting, credit_start, credit_step, credit_moderate, rate_high, credit_exact}
+use Rattle.bank.specs.Laws.CreditLaws.{credit_start, credit_step, credit_moderate, rate_high, credit_exact}
 use Rattle.bank.specs.Laws.BankSteps.{creditable}
 use Rattle.bank.specs.Laws.BankLaws.{credit_done}
 use Rattle.bank.proofs.Bank.credited.Goals as goal

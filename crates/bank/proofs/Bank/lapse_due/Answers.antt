@@ -1,5 +1,4 @@
 -- `bank::Bank::lapse_due` meets its contract: the three tests of the definition. Assumes nothing.
-use borrow.Author.Rules.{rules}
 use Rattle.closing_rules.specs.Closing.{lapse_due}
 use Rattle.bank.proofs.Bank.lapse_due.Goals as goal
 

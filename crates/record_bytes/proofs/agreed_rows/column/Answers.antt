@@ -1,10 +1,8 @@
 -- `record_bytes::agreed_rows::column` meets its contract: the first g rows are read. Assumes nothing.
-use Prim.Native.Nat.{◌-◌}
 use mathlib.Core.Path.{sym}
 use borrow.Author.Rules.{rules}
-use Rattle.lists.specs.Pairs.{cell}
 use Rattle.lists.specs.Laws.PairsLaws.{cell_in}
-use Rattle.lists.specs.Laws.TablesLaws.{Filling, fill_start, fill_step, fill_done}
+use Rattle.lists.specs.Laws.TablesLaws.{fill_start, fill_step, fill_done}
 use Rattle.record_bytes.proofs.agreed_rows.column.Goals as goal
 
 pub loop-g-init : goal.loop-g-init

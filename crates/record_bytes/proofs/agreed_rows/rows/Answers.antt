@@ -1,11 +1,10 @@
 -- `record_bytes::agreed_rows::rows` meets its contract: the first g rows are laid side by side. Assumes nothing.
-use Prim.Native.Nat.{◌-◌, ◌*◌, ◌≤◌}
 use mathlib.Core.Path.{sym, ◌∙◌}
 use native.Mathlib.Omega.{arith}
 use borrow.Author.Rules.{rules}
 use Rattle.lists.specs.Laws.PairsLaws.{pairs_table}
-use Rattle.lists.specs.Laws.TablesLaws.{Filling, fill_start, fill_done}
-use Rattle.record_layout.specs.Laws.Layout.{side_by_side, row_step}
+use Rattle.lists.specs.Laws.TablesLaws.{fill_start, fill_done}
+use Rattle.record_layout.specs.Laws.Layout.{row_step}
 use Rattle.record_bytes.proofs.agreed_rows.rows.Goals as goal
 
 pub loop-g-init : goal.loop-g-init

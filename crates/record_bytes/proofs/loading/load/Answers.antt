@@ -1,7 +1,6 @@
 -- `record_bytes::loading::load` meets its contract: each part is that of the record. Assumes nothing.
 use mathlib.Core.Path.{sym, ◌∙◌}
 use native.Mathlib.Omega.{arith}
-use borrow.Author.Rules.{rules}
 use Rattle.record_layout.specs.Laws.Layout.{offpeak_at, normal_at_lem, peak_at_lem}
 use Rattle.record_places.specs.RecordSize.{words_in}
 use Rattle.record_bytes.proofs.loading.load.Goals as goal

@@ -1,6 +1,5 @@
 -- `record_bytes::loading::load_agreed` meets its contract: the columns are those of the run at place 7. Assumes nothing.
 use mathlib.Core.Path.{◌∙◌}
-use borrow.Author.Rules.{rules}
 use Rattle.record_layout.specs.Laws.Layout.{agreed_at_lem}
 use Rattle.record_places.specs.RecordSize.{words_in}
 use Rattle.record_bytes.proofs.loading.load_agreed.Goals as goal

@@ -1,5 +1,4 @@
 -- `record_bytes::loading::load_links` meets its contract: each figure is read at its place. Assumes nothing.
-use borrow.Author.Rules.{rules}
 use Rattle.record_layout.specs.Laws.Layout.{links_at}
 use Rattle.record_places.specs.RecordSize.{words_in}
 use Rattle.record_bytes.proofs.loading.load_links.Goals as goal

@@ -3,7 +3,6 @@ use Prim.Native.Nat.{◌+◌, ◌-◌, ◌*◌}
 use mathlib.Core.Path.{◌≡◌, ◌∙◌, sym}
 use native.Mathlib.Omega.{arith}
 use lib.ListN.{length}
-use borrow.Author.Rules.{rules}
 use Rattle.codec.specs.Laws.BytesLaws.{decode_part}
 use Rattle.record_places.specs.RecordSize.{record_numbers}
 use Rattle.record_bytes.proofs.loading.load_run.Goals as goal

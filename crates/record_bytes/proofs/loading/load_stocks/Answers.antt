@@ -1,5 +1,4 @@
 -- `record_bytes::loading::load_stocks` meets its contract: each list is read where it starts. Assumes nothing.
-use borrow.Author.Rules.{rules}
 use Rattle.record_bytes.proofs.loading.load_stocks.Goals as goal
 
 pub returns : goal.returns

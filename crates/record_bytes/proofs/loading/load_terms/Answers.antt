@@ -1,6 +1,5 @@
 -- `record_bytes::loading::load_terms` meets its contract: each figure is read at its place. Assumes nothing.
 use mathlib.Core.Path.{sym, ◌∙◌}
-use borrow.Author.Rules.{rules}
 use lib.ListN.{get_or}
 use Rattle.record_layout.specs.Laws.Layout.{terms_at}
 use Rattle.record_places.specs.RecordSize.{words_in}

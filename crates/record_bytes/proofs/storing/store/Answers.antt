@@ -1,6 +1,5 @@
 -- `record_bytes::storing::store` meets its contract: the parts, one after the other, fill the record's bytes, from which the record is read back. Assumes nothing.
 use native.Mathlib.Omega.{arith}
-use borrow.Author.Rules.{rules}
 use Rattle.record.proofs.Owned.{shaped}
 use Rattle.record_layout.specs.Laws.Layout.{laid_then, laid_all, words_parts}
 use Rattle.record_layout.specs.Laws.LayoutLaws.{read_back}
