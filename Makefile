@@ -4,7 +4,7 @@
 # make bench        the library against a plain engine: instructions, time and stack of each call
 # make fuzz         tests/fuzz/run: damaged and random input to the library
 # make install      header, library and wheeling.pc below PREFIX (default /usr/local), in DESTDIR where that is given
-# make clean        removes all that was built: the next make proves everything again
+# make clean        removes all that was built, and what rt keeps of its proofs in this copy
 VERSION = 0.2.0
 PREFIX = /usr/local
 DESTDIR =
@@ -15,22 +15,20 @@ INSTALL = install
 LIBRARY = target/staticlib/libwheeling.a
 EXAMPLES = target/examples/host target/examples/day
 WHEEL = target/bin/wheel
-SOURCES = crates.txt $(shell find crates -type f)
+SOURCES = crates.txt $(shell find crates -name out -prune -o -type f -print)
 
 .PHONY: all test check bench fuzz install clean
 .DELETE_ON_ERROR:
 
 all: $(LIBRARY) $(EXAMPLES) $(WHEEL)
 
-# rt proves what has changed only. The touch tells make that the library is up to date where rt left it as it was.
+# rt proves what has changed only.
 $(LIBRARY): $(SOURCES)
-	rt staticlib wheeling
-	@touch $@
+	tools/build library
 
-# After the library: both write below target.
+# After the library: both prove the crates below them.
 $(WHEEL): $(SOURCES) | $(LIBRARY)
-	rt check wheel
-	@touch $@
+	tools/build wheel
 
 target/examples/%: examples/%.c include/wheeling.h $(LIBRARY)
 	@mkdir -p $(@D)
@@ -56,4 +54,4 @@ install: $(LIBRARY)
 	chmod 644 '$(DESTDIR)$(PREFIX)/lib/pkgconfig/wheeling.pc'
 
 clean:
-	rm -rf target bench/plain/target
+	rm -rf target bench/plain/target crates/*/out

@@ -17,7 +17,7 @@ import sys
 
 PREFIX = "wheeling_"
 NUMBERS = {"u8": "uint8_t", "u32": "uint32_t", "u64": "uint64_t", "usize": "size_t"}
-EXPORTED = r'#\[no_mangle\]\s*pub extern "C" fn (\w+)\s*\(([^()]*)\)\s*->\s*(\w+)'
+EXPORTED = r'#\[unsafe\(no_mangle\)\]\s*pub extern "C" fn (\w+)\s*\(([^()]*)\)\s*->\s*(\w+)'
 MEMORY_FUNCTIONS = {"memcpy", "memmove", "memset", "memcmp", "bcmp"}
 
 
@@ -160,7 +160,7 @@ ALTERATIONS = (
     ("a call is renamed", HEADER, r"uint32_t wheeling_block", "uint32_t wheeling_enter"),
     ("a call is renamed", SOURCE, r"fn wheeling_block", "fn wheeling_enter"),
     ("a call is renamed", SYMBOLS, r"wheeling_block T", "wheeling_enter T"),
-    ("a call is not exported", SOURCE, r"#\[no_mangle\]", ""),
+    ("a call is not exported", SOURCE, r"#\[unsafe\(no_mangle\)\]", ""),
     ("a call is not exported", SYMBOLS, r"wheeling_close T.*\n", ""),
     ("a call is not exported", SYMBOLS, r"wheeling_day T.*\n", ""),
     ("a call is declared more", HEADER, r"(uint32_t wheeling_close)",

@@ -328,8 +328,8 @@ FAULTS = {
         "byte before 0 taken for a digit": ("if b < b'0' {", "if b < b'/' {"),
         "empty value read as 0":
             ("fn first_byte(b: u8) ", "fn first_byte(b: u8, sep: u8) ",
-             "firstByte b ⌝ }\n{",
-             "firstByte b ⌝ }\n{\n    if b == sep {\n        return Progress::Start;\n    }",
+             "first_byte b }\n{",
+             "first_byte b }\n{\n    if b == sep {\n        return Progress::Start;\n    }",
              "=> first_byte(b),", "=> first_byte(b, sep),"),
         "comma and line feed alike": ("if b == sep {", "if (b == b',') | (b == b'\\n') {"),
         "semicolon for a comma allowed":
@@ -337,8 +337,8 @@ FAULTS = {
         "carriage return passed over":
             ("    if b == sep {",
              "    if b == 13 {\n        return Progress::Digits(n);\n    }\n    if b == sep {",
-             "valuesEnded b ⌝ }\n{",
-             "valuesEnded b ⌝ }\n{\n    if b == 13 {\n        return 0;\n    }"),
+             "values_ended b }\n{",
+             "values_ended b }\n{\n    if b == 13 {\n        return 0;\n    }"),
         "no last line feed allowed":
             ("Progress::Digits(_) => false", "Progress::Digits(_) => k % w == w - 1"),
         "last line with too few values allowed": ("k % w == 0", "k % w <= w"),

@@ -26,7 +26,8 @@ STARTS = ["opening::opening", "schedule::schedule", "block::block", "closing::cl
           "MonthClaim", C_CALLS, "ByteClaim", "sharing::share", "check_meter::day", "table::read_table", "wheel::report"]
 
 FUNCTION = re.compile(r'^(?:pub )?(extern "C" )?fn (\w+)(?:<[^>]*>)?\(.*?^\{', re.S | re.M)
-IMPORT = re.compile(r"^\s*(?:ghost )?use Rattle·(\w+?)(?:·specs)?\.specs\.((?:Laws\.)?\w+)(?:\.\{([^}]*)\})?", re.M)
+IMPORT = re.compile(r"^\s*(?:ghost )?use Rattle\.(\w+)\.specs\.((?:Laws\.)?\w+)(?:\.\{([^}]*)\})?", re.M)
+KIT = {"core", "std"}  # whose words are the language's: they are believed with the kit
 INDEXES = {"Lib", "Laws"}  # files that only name others
 
 
@@ -39,9 +40,10 @@ def spec_path(crate, module):
 
 
 def imports(path):
-    """(crate, module, names) for each import of another crate's or its own specifications; structs of the code are not among them."""
+    """(crate, module, names) for each import of another crate's or its own specifications; structs of the code and the kit's words are not
+    among them."""
     for crate, module, names in IMPORT.findall(path.read_text()):
-        if module != "declared":
+        if crate not in KIT and module != "declared":
             yield crate, module, [name.strip() for name in names.split(",")]
 
 
@@ -54,16 +56,21 @@ def promises():
             call = C_CALLS if match.group(1) else f"{crate}::{match.group(2)}"
             if call not in STARTS:
                 continue
-            if "\n    requires " in match.group(0):
+            if re.search(r"\n    requires\b", match.group(0)):
                 raise Misplaced(f"the public call {crate}::{match.group(2)} has a requirement")
             found.setdefault(call, []).append((source, match.group(0).partition("ensures")[2]))
     return found
 
 
+def said_in(words, name):
+    """Whether a promise of these words has that name; of one with places, as `if◌then◌else◌`, it has all the parts."""
+    return bool(name) and words >= set(filter(None, name.split("◌")))
+
+
 def named_by(source, promise):
     """The files that a promise names."""
-    words = set(re.findall(r"[^\s()\[\]{};,⌜⌝]+", promise))
-    return [(crate, module) for crate, module, names in imports(source) if words & set(names)]
+    words = set(re.findall(r"[^\s()\[\]{};,]+", promise))
+    return [(crate, module) for crate, module, names in imports(source) if any(said_in(words, name) for name in names)]
 
 
 def defining(claim):

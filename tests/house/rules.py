@@ -184,9 +184,9 @@ def numbers_in(file):
 
 
 def sound_tests():
-    """The tests that a sound record passes, in the definition's words: what && joins in each definition named ...Sound."""
+    """The tests that a sound record passes, in the definition's words: what && joins in each definition named ..._sound."""
     for definition in (CRATES / "record" / "specs" / "Sound.antt").read_text().split("\n\n"):
-        body = re.search(r"^(\w+Sound) [^:\n]*=(.*)", definition, re.M | re.S)
+        body = re.search(r"^(\w+_sound) [^:\n]*=(.*)", definition, re.M | re.S)
         if body:
             yield from (" ".join(test.split()) for test in body.group(2).split("&&"))
 
@@ -199,10 +199,10 @@ def refusal_numbers(file, name):
 
 
 def tests_of_refusals():
-    """(file, name) of each definition that tests refusals by firstOf."""
+    """(file, name) of each definition that tests refusals by first_of."""
     for path in sorted(CRATES.glob("*/specs/*.antt")):
         file = str(path.relative_to(CRATES))[: -len(".antt")]
-        for name in re.findall(r"^ *(\w+)(?: \w+)* =\s*(?:let .*\s*)*firstOf\s*\(\(\d", path.read_text(), re.M):
+        for name in re.findall(r"^ *(\w+)(?: \w+)* =\s*(?:let .*\s*)*first_of\s*\(\(\d", path.read_text(), re.M):
             yield file, name
 
 

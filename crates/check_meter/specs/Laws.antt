@@ -1,3 +1,2 @@
 pub mod DaysScanned
 pub mod DaysCompared
-pub mod CheckMeterLaws

@@ -130,7 +130,7 @@ module _ (o : Opening) where
       TakenUp o (month_from outs as' ws) (figures (last_record r ws))
   unfolding month_from last_record
   follows h trace_none = h
-  follows {r = r} h (trace_one {a = a} {w = w} d rest) = follows (step r h a w d) rest
+  follows {outs = outs} {r = r} h (trace_one {a = a} {w = w} d rest) = follows {outs = month_next outs a w} {r = w.answer.after} (step r h a w d) rest
 
 pub published_taken_up : MonthClaim
 published_taken_up o p number r₀ start asks ws t =

@@ -1,7 +1,6 @@
 -- `check_meter::compare` makes the tests in their order. Assumes nothing.
 use mathlib.Core.Path.{◌∙◌}
-use borrow.Author.Rules.{rules}
-use Rattle.check_meter.specs.Laws.DaysCompared.{not_of_96, both_of_96, compared}
+use Rattle.check_meter.proofs.ComparedLaws.{not_of_96, both_of_96, compared}
 use Rattle.check_meter.proofs.compare.Goals as goal
 
 pub returns-then-main-check : goal.returns-then-main-check

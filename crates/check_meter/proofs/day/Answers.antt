@@ -1,6 +1,5 @@
 -- `check_meter::day` hands back a part of one of the two days. Assumes nothing.
-use borrow.Author.Rules.{rules}
-use Rattle.check_meter.specs.Laws.DaysCompared.{none_handed, check_part, main_part, check_handed, main_handed}
+use Rattle.check_meter.proofs.ComparedLaws.{none_handed, check_part, main_part, check_handed, main_handed}
 use Rattle.check_meter.proofs.day.Goals as goal
 
 pub returns-then-both-ne0 : goal.returns-then-both-ne0

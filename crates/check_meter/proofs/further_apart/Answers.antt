@@ -1,5 +1,4 @@
 -- `check_meter::further_apart` makes the three tests of the rule. Assumes nothing.
-use borrow.Author.Rules.{rules}
 use Rattle.check_meter.specs.CheckMeter.{further_apart}
 use Rattle.check_meter.proofs.further_apart.Goals as goal
 

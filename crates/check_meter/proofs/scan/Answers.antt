@@ -1,10 +1,8 @@
 -- `check_meter::scan` goes through both days. Assumes nothing.
-use Prim.Native.Nat.{◌-◌, ◌≤◌}
+use Prim.Native.Nat.{◌≤◌}
 use mathlib.Core.Path.{refl}
 use native.Mathlib.Omega.{arith}
-use borrow.Author.Rules.{rules}
-use Rattle.check_meter.specs.CheckMeter.{day_blocks}
-use Rattle.check_meter.specs.Laws.DaysScanned.{one_at_most, Scanning, scan_start, scan_step, scan_done}
+use Rattle.check_meter.specs.Laws.DaysScanned.{one_at_most, scan_start, scan_step, scan_done}
 use Rattle.check_meter.proofs.scan.Goals as goal
 
 pub loop-i-init : goal.loop-i-init

@@ -1,5 +1,4 @@
 -- `check_meter::tell` tells a count only where the number is 0. Assumes nothing.
-use borrow.Author.Rules.{rules}
 use Rattle.check_meter.proofs.tell.Goals as goal
 
 pub returns : goal.returns

@@ -7,8 +7,9 @@ use Rattle.lists.specs.Choice.{if◌then◌else◌}
 use Rattle.lists.specs.Laws.TestsLaws.{and_left, and_right}
 use Rattle.codec.specs.Bytes.{decode}
 use Rattle.check_meter.specs.CheckMeter.{day_blocks, incomplete, day_number, blocks_apart}
-use Rattle.check_meter.specs.Laws.CheckMeterLaws.{check_complete}
-use Rattle.check_meter.specs.Laws.DaysCompared.{comparison, main_misfit, check_misfit, number_compared, check_compared, apart_compared}
+use Rattle.check_meter.proofs.CheckMeterLaws.{check_complete}
+use Rattle.check_meter.specs.Laws.DaysCompared.{comparison}
+use Rattle.check_meter.proofs.ComparedLaws.{main_misfit, check_misfit, number_compared, check_compared, apart_compared}
 use Rattle.check_meter.specs.declared.Comparison.{Comparison}
 use Rattle.record_layout.specs.OnBytes.{bytes_after}
 use Rattle.wheeling_rules.specs.Wheeling.{numbers_in}

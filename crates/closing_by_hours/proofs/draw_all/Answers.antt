@@ -39,15 +39,15 @@ by_generator-column-requires c =
     let consumer : ℕ = c.loop-c.c in
     let narrow : c.args.m ≤ 16 = let p = c.requires.0 in omega (arith, p.m_is, p.facts.counts.C_high) in
     let within : consumer < 16 = omega (arith, c.loop-c-test.true, narrow) in
-    let turned : TurnDrawn (book_in c.args.s.now) consumer c.draw-turn.result = let p = c.requires.0 in let gs = c.suppliers_at-suppliers.ensures in turn_drawn _ _ _ _ _ c.loop-c.inv.0.left_is gs.0 (wants_are _ _ p.hours_apply within c.wanted_at-want.ensures) (c.draw-turn.ensures ∙ draw_within _ _ _ _ gs.1) in
-    let inv = c.loop-c.inv.0 in
+    let turned : TurnDrawn (book_in c.args.s.now) consumer c.draw-turn.result = let p = c.requires.0 in let gs = c.suppliers_at-suppliers.ensures in turn_drawn _ _ _ _ _ c.loop-c.invariant.0.left_is gs.0 (wants_are _ _ p.hours_apply within c.wanted_at-want.ensures) (c.draw-turn.ensures ∙ draw_within _ _ _ _ gs.1) in
+    let inv = c.loop-c.invariant.0 in
     (few, apart _ c.requires.0.facts _ _ few _ _ inv.size turned.size inv.left_is turned.left_is)
 
 pub put_column-requires : goal.put_column-requires
 put_column-requires c =
     let few : c.args.n ≤ 8 = let p = c.requires.0 in omega (arith, p.n_is, p.facts.counts.G_high) in
     let narrow : c.args.m ≤ 16 = let p = c.requires.0 in omega (arith, p.m_is, p.facts.counts.C_high) in
-    (c.loop-c.inv.0.drawn_is.size, (few, (narrow, c.loop-c-test.true)))
+    (c.loop-c.invariant.0.drawn_is.size, (few, (narrow, c.loop-c-test.true)))
 
 pub overflow_add-supplied : goal.overflow_add-supplied
 unfolding figures
@@ -55,7 +55,7 @@ overflow_add-supplied c =
     let consumer : ℕ = c.loop-c.c in
     let narrow : c.args.m ≤ 16 = let p = c.requires.0 in omega (arith, p.m_is, p.facts.counts.C_high) in
     let within : consumer < 16 = omega (arith, c.loop-c-test.true, narrow) in
-    let turned : TurnDrawn (book_in c.args.s.now) consumer c.draw-turn.result = let p = c.requires.0 in let gs = c.suppliers_at-suppliers.ensures in turn_drawn _ _ _ _ _ c.loop-c.inv.0.left_is gs.0 (wants_are _ _ p.hours_apply within c.wanted_at-want.ensures) (c.draw-turn.ensures ∙ draw_within _ _ _ _ gs.1) in
+    let turned : TurnDrawn (book_in c.args.s.now) consumer c.draw-turn.result = let p = c.requires.0 in let gs = c.suppliers_at-suppliers.ensures in turn_drawn _ _ _ _ _ c.loop-c.invariant.0.left_is gs.0 (wants_are _ _ p.hours_apply within c.wanted_at-want.ensures) (c.draw-turn.ensures ∙ draw_within _ _ _ _ gs.1) in
     let lacks_low : let left = c.draw-turn.result.left in get_or left 0 0 + get_or left 1 0 + get_or left 2 0 ≤ most_figure = omega (arith, lacking_sum _ _ turned, lacking_low _ c.requires.0.facts consumer) in
     omega (arith, lacks_low)
 
@@ -65,7 +65,7 @@ overflow_add-supplied-in-loop-c c =
     let consumer : ℕ = c.loop-c.c in
     let narrow : c.args.m ≤ 16 = let p = c.requires.0 in omega (arith, p.m_is, p.facts.counts.C_high) in
     let within : consumer < 16 = omega (arith, c.loop-c-test.true, narrow) in
-    let turned : TurnDrawn (book_in c.args.s.now) consumer c.draw-turn.result = let p = c.requires.0 in let gs = c.suppliers_at-suppliers.ensures in turn_drawn _ _ _ _ _ c.loop-c.inv.0.left_is gs.0 (wants_are _ _ p.hours_apply within c.wanted_at-want.ensures) (c.draw-turn.ensures ∙ draw_within _ _ _ _ gs.1) in
+    let turned : TurnDrawn (book_in c.args.s.now) consumer c.draw-turn.result = let p = c.requires.0 in let gs = c.suppliers_at-suppliers.ensures in turn_drawn _ _ _ _ _ c.loop-c.invariant.0.left_is gs.0 (wants_are _ _ p.hours_apply within c.wanted_at-want.ensures) (c.draw-turn.ensures ∙ draw_within _ _ _ _ gs.1) in
     let lacks_low : let left = c.draw-turn.result.left in get_or left 0 0 + get_or left 1 0 + get_or left 2 0 ≤ most_figure = omega (arith, lacking_sum _ _ turned, lacking_low _ c.requires.0.facts consumer) in
     omega (arith, lacks_low)
 
@@ -90,9 +90,8 @@ loop-c-preserved c =
     let narrow : c.args.m ≤ 16 = let p = c.requires.0 in omega (arith, p.m_is, p.facts.counts.C_high) in
     let consumer : ℕ = c.loop-c.c in
     let within : consumer < 16 = omega (arith, c.loop-c-test.true, narrow) in
-    let turned : TurnDrawn (book_in c.args.s.now) consumer c.draw-turn.result = let p = c.requires.0 in let gs = c.suppliers_at-suppliers.ensures in turn_drawn _ _ _ _ _ c.loop-c.inv.0.left_is gs.0 (wants_are _ _ p.hours_apply within c.wanted_at-want.ensures) (c.draw-turn.ensures ∙ draw_within _ _ _ _ gs.1) in
-    (
-      drawing_step _ c.requires.0.facts c.loop-c-test.true narrow few c.loop-c.inv.0 turned c.by_generator-column.ensures c.put_column.ensures (lacking_sum _ _ turned),
+    let turned : TurnDrawn (book_in c.args.s.now) consumer c.draw-turn.result = let p = c.requires.0 in let gs = c.suppliers_at-suppliers.ensures in turn_drawn _ _ _ _ _ c.loop-c.invariant.0.left_is gs.0 (wants_are _ _ p.hours_apply within c.wanted_at-want.ensures) (c.draw-turn.ensures ∙ draw_within _ _ _ _ gs.1) in (
+      drawing_step _ c.requires.0.facts c.loop-c-test.true narrow few c.loop-c.invariant.0 turned c.by_generator-column.ensures c.put_column.ensures (lacking_sum _ _ turned),
       omega (arith, c.loop-c-test.true),
     )
 

@@ -1,6 +1,5 @@
 -- `codec::join4` meets its contract: the weights are the powers of 256. Assumes nothing.
 use native.Mathlib.Omega.{arith}
-use borrow.Author.Rules.{rules}
 use Rattle.codec.specs.Bytes.{number}
 use Rattle.codec.proofs.join4.Goals as goal
 

@@ -1,6 +1,5 @@
 -- `codec::number8` meets its contract: the eight bytes read are those from `at` on. Assumes nothing.
 use mathlib.Core.Path.{sym, ap, ◌∙◌}
-use borrow.Author.Rules.{rules}
 use Rattle.lists.specs.Tables.{table}
 use Rattle.codec.specs.Bytes.{number}
 use Rattle.codec.specs.Laws.BytesPut.{window}

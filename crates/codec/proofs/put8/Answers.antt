@@ -1,7 +1,6 @@
 -- `codec::put8` meets its contract: its eight stores write the number's low bytes. Assumes nothing.
 use native.Mathlib.Omega.{arith}
 use lib.ListN.{length-set}
-use borrow.Author.Rules.{rules}
 use Rattle.codec.specs.Bytes.{bytes}
 use Rattle.codec.specs.Laws.BytesPut.{stores}
 use Rattle.codec.proofs.put8.Goals as goal

@@ -1,12 +1,10 @@
 -- `codec::put8s` meets its contract: the first i numbers are written. Assumes nothing.
-use Prim.Native.Nat.{◌+◌, ◌-◌, ◌≤◌}
 use mathlib.Core.Path.{◌∙◌, refl, ◌≡◌}
 use native.Mathlib.Nat.{add-zero}
 use native.Mathlib.Omega.{arith}
 use lib.ListN.{length, take}
 use lib.Seq.{take_all}
-use borrow.Author.Rules.{rules}
-use Rattle.codec.specs.Laws.BytesPut.{Put, put_none, put_one, put_more}
+use Rattle.codec.specs.Laws.BytesPut.{put_none, put_one, put_more}
 use Rattle.codec.proofs.put8s.Goals as goal
 
 pub loop-i-init : goal.loop-i-init

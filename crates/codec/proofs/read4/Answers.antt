@@ -1,9 +1,7 @@
 -- `codec::read4` meets its contract: the first i numbers are read. Assumes nothing.
-use Prim.Native.Nat.{◌-◌}
 use mathlib.Core.Path.{refl}
-use lib.ListN.{length}
 use borrow.Author.Rules.{rules}
-use Rattle.codec.specs.Laws.BytesPut.{Reading, read_start, read_step, read_done}
+use Rattle.codec.specs.Laws.BytesPut.{read_start, read_step, read_done}
 use Rattle.codec.proofs.read4.Goals as goal
 
 pub loop-i-init : goal.loop-i-init

@@ -1,6 +1,5 @@
 -- `codec::write8` meets its contract: the numbers put from place 0 on fill the slice. Assumes nothing.
 use native.Mathlib.Omega.{arith}
-use borrow.Author.Rules.{rules}
 use Rattle.codec.specs.Laws.BytesPut.{put_all}
 use Rattle.codec.proofs.write8.Goals as goal
 

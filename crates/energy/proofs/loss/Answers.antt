@@ -3,7 +3,6 @@ use Prim.Native.Nat.{ℕ, ◌+◌, ◌*◌, ◌≤◌}
 use mathlib.Core.Path.{◌≡◌, sym, ap, ◌∙◌}
 use native.Mathlib.Nat.{mul-le-mul}
 use native.Mathlib.Omega.{arith}
-use borrow.Author.Rules.{rules}
 use Rattle.energy.specs.Energy.{loss_on}
 use Rattle.energy.specs.Limits.{most_loss}
 use Rattle.energy.specs.Laws.EnergyLaws.{loss_split}

@@ -23,15 +23,15 @@ shape_of-s c = c.store_stocks-3.ensures.size ∙ sym c.requires.1
 
 pub returns : goal.returns
 returns c =
-    let terms = c.terms-from in
-    let counts = c.first-counts in
-    let agreed = c.agreed-from in
-    let links = c.links-from in
-    let schedule = c.first-schedule in
-    let generators = c.no-injection in
-    let consumers = c.no-consumption in
-    let switch = c.first-switch in
-    let stocks = c.no-stocks in
+    let terms = c.terms_from-terms in
+    let counts = c.first_counts-counts in
+    let agreed = c.agreed_from-agreed in
+    let links = c.links_from-links in
+    let schedule = c.first_schedule-schedule in
+    let generators = c.no_injection-generators in
+    let consumers = c.no_consumption-consumers in
+    let switch = c.first_switch-first in
+    let stocks = c.no_stocks-stocks in
     let r : Record =
     record {
       terms = terms.result;

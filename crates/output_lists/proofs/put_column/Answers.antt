@@ -1,9 +1,7 @@
 -- `output_lists::put_column` meets its contract: g places of the column are written. Assumes nothing.
-use Prim.Native.Nat.{◌-◌, ◌≤◌}
 use mathlib.Core.Path.{◌≡◌, refl}
 use native.Mathlib.Omega.{arith}
 use borrow.Author.Rules.{rules}
-use Rattle.output_lists.specs.Laws.Columns.{ColumnPut}
 use Rattle.output_lists.specs.Laws.ColumnsLaws.{put_start, put_step, Spot, spot}
 use Rattle.output_lists.proofs.put_column.Goals as goal
 

@@ -1,8 +1,6 @@
 -- `output_lists::write_list` meets its contract: each place passed holds the number of `xs` at that place.
-use Prim.Native.Nat.{◌-◌}
 use mathlib.Core.Path.{refl}
-use lib.ListN.{length, get_or}
-use Rattle.lists.specs.Laws.TablesLaws.{Filling, fill_start, fill_step, fill_length, fill_done}
+use Rattle.lists.specs.Laws.TablesLaws.{fill_start, fill_step, fill_length, fill_done}
 use native.Mathlib.Omega.{arith}
 use borrow.Author.Rules.{rules}
 use Rattle.output_lists.proofs.write_list.Goals as goal

@@ -1,7 +1,6 @@
 -- `sharing::parts` is the table of the parts: what the figures passed bear together is the running share, and never more than the whole. Assumes nothing.
-use Prim.Native.Nat.{◌-◌}
 use Rattle.lists.specs.Laws.TablesLaws.{fill_done}
-use Rattle.sharing.specs.Laws.ShareLaws.{Sharing, sharing_start, next_le, product_le, share_le, share_rises, sharing_step, sharing_skip}
+use Rattle.sharing.specs.Laws.ShareLaws.{sharing_start, next_le, product_le, share_le, share_rises, sharing_step, sharing_skip}
 use native.Mathlib.Omega.{arith}
 use borrow.Author.Rules.{rules}
 use Rattle.sharing.proofs.parts.Goals as goal
@@ -27,7 +26,7 @@ loop-c-preserved c =
     let h = c.requires in
     let i = c.loop-c.invariant in
     elim c.if-kw-c-gt0.branch [
-      then-kw-c-gt0 w ↦ rw (w.out-is, w.sum-is, w.last-is) (sharing_step h i c.loop-c-test.true)
+      | then-kw-c-gt0 w ↦ rw (w.out-is, w.sum-is, w.last-is) (sharing_step h i c.loop-c-test.true)
       | else-kw-c-gt0 w ↦ rw (w.out-is, w.sum-is, w.last-is) (sharing_skip h i c.loop-c-test.true w.if-kw-c-gt0.false)
     ]
 

@@ -1,5 +1,4 @@
 -- `sharing::total` is the sum of the sixteen figures; each is below 2^32, so that the sum fits 64 bits. Assumes nothing.
-use Prim.Native.Nat.{◌-◌}
 use mathlib.Core.Path.{sym}
 use native.Mathlib.Omega.{arith}
 use mir.Syntax.{w32}
@@ -7,8 +6,7 @@ use mir.Val.{Fits}
 use borrow.Author.Rules.{rules}
 use lib.ListN.{get_or}
 use Rattle.lists.specs.Laws.PairsLaws.{place_in}
-use Rattle.lists.specs.Pairs.{place}
-use Rattle.lists.specs.Laws.SumsLaws.{Summing, sum_start, sum_step, sum_done}
+use Rattle.lists.specs.Laws.SumsLaws.{sum_start, sum_step, sum_done}
 use Rattle.sharing.proofs.total.Goals as goal
 
 pub loop-c-init : goal.loop-c-init

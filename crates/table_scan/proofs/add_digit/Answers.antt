@@ -1,7 +1,6 @@
 -- `table_scan::add_digit` meets its contract, by the tests on the leading zero and on the limit. Assumes nothing.
 use Prim.Native.Nat.{◌+◌, ◌*◌}
 use borrow.Author.Tests.{le-leb, lt-leb, eq-eqb, ne_eqb}
-use borrow.Author.Rules.{rules}
 use Rattle.table_scan.specs.Values.{largest}
 use Rattle.table_scan.specs.Laws.Scan.{add_digit}
 use Rattle.table_scan.proofs.add_digit.Goals as goal

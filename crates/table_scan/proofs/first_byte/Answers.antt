@@ -1,6 +1,5 @@
 -- `table_scan::first_byte` meets its contract, by whether the byte is a digit. Assumes nothing.
 use mathlib.Core.Path.{sym, ◌∙◌}
-use borrow.Author.Rules.{rules}
 use Rattle.table_scan.specs.Laws.Scan.{first_byte}
 use Rattle.table_scan.specs.Laws.ScanLaws.{digit_low}
 use Rattle.table_scan.proofs.first_byte.Goals as goal

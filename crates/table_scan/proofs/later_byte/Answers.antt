@@ -2,7 +2,6 @@
 use borrow.Author.Tests.{eq-eqb, ne_eqb}
 use mathlib.Core.Path.{sym, ◌∙◌}
 use native.Mathlib.Omega.{arith}
-use borrow.Author.Rules.{rules}
 use Rattle.table_scan.specs.Laws.Scan.{later_byte}
 use Rattle.table_scan.specs.Laws.ScanLaws.{digit_low, digit_high}
 use Rattle.table_scan.proofs.later_byte.Goals as goal

@@ -1,5 +1,4 @@
 -- `table_scan::next_byte` meets its contract, by the cases of the progress. Assumes nothing.
-use borrow.Author.Rules.{rules}
 use Rattle.table_scan.specs.Laws.ScanLaws.{next_start, next_digits, next_malformed}
 use Rattle.table_scan.proofs.next_byte.Goals as goal
 

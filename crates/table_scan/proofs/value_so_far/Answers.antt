@@ -1,5 +1,4 @@
 -- `table_scan::value_so_far` meets its contract, by the cases of the progress. Assumes nothing.
-use borrow.Author.Rules.{rules}
 use Rattle.table_scan.specs.Laws.Scan.{value_so_far}
 use Rattle.table_scan.proofs.value_so_far.Goals as goal
 

@@ -1,5 +1,4 @@
 -- `table_scan::values_ended` meets its contract, by whether the byte is a digit. Assumes nothing.
-use borrow.Author.Rules.{rules}
 use Rattle.table_scan.specs.Laws.Scan.{values_ended}
 use Rattle.table_scan.proofs.values_ended.Goals as goal
 

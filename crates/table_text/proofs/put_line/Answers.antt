@@ -1,9 +1,8 @@
 -- `table_text::put_line` meets its contract. The loop's invariant: the first j values are laid, and the rest still fits. Assumes nothing.
-use Prim.Native.Nat.{◌-◌}
 use native.Mathlib.Omega.{arith}
 use borrow.Author.Rules.{rules}
 use Rattle.table_text.specs.Laws.LayingLaws.{put_length}
-use Rattle.table_text.specs.Laws.Naming.{Lining, lining_start, lining_size, lining_room, lining_step, lining_done}
+use Rattle.table_text.specs.Laws.Naming.{lining_start, lining_size, lining_room, lining_step, lining_done}
 use Rattle.table_text.proofs.put_line.Goals as goal
 
 pub loop-j-init : goal.loop-j-init

@@ -1,10 +1,9 @@
 -- `table_text::put_names` meets its contract. The loop's invariant: the first j names are laid, and the rest still fits. Assumes nothing.
 use mathlib.Core.Path.{refl}
-use Prim.Native.Nat.{◌-◌}
 use native.Mathlib.Omega.{arith}
 use borrow.Author.Rules.{rules}
 use Rattle.table_text.specs.Laws.LayingLaws.{put_length}
-use Rattle.table_text.specs.Laws.Naming.{Naming, naming_start, naming_size, naming_room, naming_step, naming_done}
+use Rattle.table_text.specs.Laws.Naming.{naming_start, naming_size, naming_room, naming_step, naming_done}
 use Rattle.table_text.proofs.put_names.Goals as goal
 
 pub loop-j-init : goal.loop-j-init

@@ -1,6 +1,5 @@
 -- `table_text::separator_after` meets its contract, by the test on the place. Assumes nothing.
 use borrow.Author.Tests.{eq-eqb, ne_eqb}
-use borrow.Author.Rules.{rules}
 use Rattle.table_text.specs.TableText.{separator_after}
 use Rattle.table_text.proofs.separator_after.Goals as goal
 

@@ -1,0 +1,2 @@
+pub mod ComparedLaws
+pub mod CheckMeterLaws
