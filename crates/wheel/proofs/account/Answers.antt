@@ -1,5 +1,4 @@
 -- `wheel::account` meets its contract, by the number of the month's calls. Assumes nothing.
-use borrow.Author.Rules.{rules}
 use Rattle.wheel.specs.Laws.AccountLaws.{shows_refusal, shows_equation}
 use Rattle.wheel.proofs.account.Goals as goal
 
@@ -7,9 +6,4 @@ pub returns-then-number-ne0 : goal.returns-then-number-ne0
 returns-then-number-ne0 c = shows_refusal c.args.values.now c.month-a.ensures c.if-number-ne0.true c.refused.ensures
 
 pub returns : goal.returns
-returns c =
-    shows_equation
-    c.args.values.now
-    c.month-a.ensures
-    c.if-number-ne0.false
-    c.equation.ensures
+returns c = shows_equation c.args.values.now c.month-a.ensures c.if-number-ne0.false c.equation.ensures
