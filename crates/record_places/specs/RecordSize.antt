@@ -2,7 +2,7 @@
 use Rattle.std.specs.Prelude.{ℕ, ◌*◌, List}
 use Rattle.codec.specs.Bytes.{decode}
 
--- words-count of crate record: as many as its runs have
+-- words_count of crate record: as many as its runs have
 abbrev pub record_numbers : ℕ
 record_numbers = 817
 

@@ -1,6 +1,5 @@
 -- `block_delivery::counted_at` is rule 1 on the record. Assumes nothing.
 use mathlib.Core.Path.{◌∙◌}
-use borrow.Author.Rules.{rules}
 use Rattle.block_delivery.proofs.counted_at.Goals as goal
 
 pub returns : goal.returns

@@ -1,10 +1,8 @@
 -- `block_delivery::delivered_row` copies the first m figures. Assumes nothing.
-use Prim.Native.Nat.{◌-◌}
 use mathlib.Core.Path.{sym, ◌∙◌}
 use native.Mathlib.Omega.{arith}
 use borrow.Author.Rules.{rules}
-use lib.ListN.{get_or}
-use Rattle.lists.specs.Laws.TablesLaws.{Filling, fill_start, fill_step, fill_length, fill_done}
+use Rattle.lists.specs.Laws.TablesLaws.{fill_start, fill_step, fill_length, fill_done}
 use Rattle.block_delivery.proofs.delivered_row.Goals as goal
 
 pub loop-c-preserved : goal.loop-c-preserved

@@ -1,10 +1,9 @@
 -- `block_delivery::fill_delivered` puts row after row. Assumes nothing.
-use Prim.Native.Nat.{◌+◌, ◌-◌, ◌≤◌}
+use Prim.Native.Nat.{◌+◌, ◌≤◌}
 use native.Mathlib.Omega.{arith}
 use borrow.Author.Rules.{rules}
 use lib.ListN.{length}
-use Rattle.output_lists.specs.Laws.RowsWritten.{WritingRows, rows_start, rows_put, rows_length, rows_done, row_room}
-use Rattle.block_delivery.specs.Laws.DeliveryRows.{figure}
+use Rattle.output_lists.specs.Laws.RowsWritten.{rows_start, rows_put, rows_length, rows_done, row_room}
 use Rattle.block_delivery.proofs.fill_delivered.Goals as goal
 
 pub loop-g-preserved : goal.loop-g-preserved

@@ -1,11 +1,9 @@
 -- `block_delivery::fill_gap` puts the gaps row after row. Assumes nothing.
-use Prim.Native.Nat.{◌+◌, ◌-◌, ◌≤◌}
+use Prim.Native.Nat.{◌+◌, ◌≤◌}
 use native.Mathlib.Omega.{arith}
 use borrow.Author.Rules.{rules}
 use lib.ListN.{length}
-use Rattle.output_lists.specs.Laws.RowsWritten.{WritingRows, rows_start, rows_put, rows_length, rows_done, row_room}
-use Rattle.record_layout.specs.OnBytes.{plan_in}
-use Rattle.block_delivery.specs.Laws.DeliveryRows.{figure, gap_at}
+use Rattle.output_lists.specs.Laws.RowsWritten.{rows_start, rows_put, rows_length, rows_done, row_room}
 use Rattle.block_delivery.proofs.fill_gap.Goals as goal
 
 pub gap_row-requires : goal.gap_row-requires

@@ -1,15 +1,12 @@
 -- `block_delivery::fill_loss` takes the losses off row after row. Assumes nothing.
-use Prim.Native.Nat.{ℕ, ◌+◌, ◌-◌, ◌≤◌}
+use Prim.Native.Nat.{ℕ, ◌+◌, ◌≤◌}
 use mathlib.Core.Path.{◌≡◌, ap, ◌∙◌}
 use mathlib.Core.List.{List, []}
 use native.Mathlib.Omega.{arith}
 use borrow.Author.Rules.{rules}
 use lib.ListN.{length, get_or}
-use Rattle.lists.specs.Laws.TablesLaws.{Filling, filled, filled_later, filled_before, fill_start, fill_step}
-use Rattle.output_lists.specs.Laws.RowsWritten.{WritingRows, rows_start, rows_put, rows_length, rows_done, row_room}
-use Rattle.energy.specs.Energy.{loss_on, after_loss}
-use Rattle.record_layout.specs.OnBytes.{plan_in}
-use Rattle.block_delivery.specs.Laws.DeliveryRows.{figure}
+use Rattle.lists.specs.Laws.TablesLaws.{filled_later, filled_before, fill_start, fill_step}
+use Rattle.output_lists.specs.Laws.RowsWritten.{rows_start, rows_put, rows_length, rows_done, row_room}
 use Rattle.block_delivery.proofs.fill_loss.Goals as goal
 
 pub loss_row-requires : goal.loss_row-requires

@@ -1,12 +1,8 @@
 -- `block_delivery::gap_row` is rule 4, pair by pair. Assumes nothing.
-use Prim.Native.Nat.{◌-◌}
 use mathlib.Core.Path.{sym, ◌∙◌}
 use native.Mathlib.Omega.{arith}
 use borrow.Author.Rules.{rules}
-use lib.ListN.{get_or}
-use Rattle.lists.specs.Laws.TablesLaws.{Filling, fill_start, fill_step, fill_length, fill_done}
-use Rattle.record_layout.specs.OnBytes.{plan_in}
-use Rattle.block_delivery.specs.Laws.DeliveryRows.{gap_at}
+use Rattle.lists.specs.Laws.TablesLaws.{fill_start, fill_step, fill_length, fill_done}
 use Rattle.block_delivery.proofs.gap_row.Goals as goal
 
 pub kw_at-requires : goal.kw_at-requires

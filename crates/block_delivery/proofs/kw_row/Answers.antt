@@ -1,8 +1,6 @@
 -- `block_delivery::kw_row` is row g of the schedule. Assumes nothing.
-use Prim.Native.Nat.{◌-◌}
 use borrow.Author.Rules.{rules}
-use Rattle.lists.specs.Laws.TablesLaws.{Filling, fill_start, fill_step, fill_done}
-use Rattle.record_layout.specs.OnBytes.{plan_in}
+use Rattle.lists.specs.Laws.TablesLaws.{fill_start, fill_step, fill_done}
 use Rattle.block_delivery.proofs.kw_row.Goals as goal
 
 pub kw_at-requires : goal.kw_at-requires

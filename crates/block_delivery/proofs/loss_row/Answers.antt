@@ -1,11 +1,11 @@
 -- `block_delivery::loss_row` is rule 3, part by part. Assumes nothing.
-use Prim.Native.Nat.{ℕ, ◌-◌, ◌≤◌}
+use Prim.Native.Nat.{ℕ, ◌≤◌}
 use mathlib.Core.Path.{◌≡◌, sym, ◌∙◌}
 use native.Mathlib.Omega.{arith}
 use borrow.Author.Rules.{rules}
 use lib.ListN.{get_or}
-use Rattle.lists.specs.Laws.TablesLaws.{Filling, fill_start, fill_step, fill_here, fill_length, fill_done}
-use Rattle.energy.specs.Energy.{loss_on, after_loss}
+use Rattle.lists.specs.Laws.TablesLaws.{fill_start, fill_step, fill_here, fill_length, fill_done}
+use Rattle.energy.specs.Energy.{loss_on}
 use Rattle.energy.specs.Laws.EnergyLaws.{loss_le}
 use Rattle.energy.specs.Limits.{most_loss}
 use Rattle.record_layout.specs.OnBytes.{plan_in}

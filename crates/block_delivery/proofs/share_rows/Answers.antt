@@ -1,15 +1,14 @@
 -- `block_delivery::share_rows` is rules 1 and 2, generator by generator. Assumes nothing.
-use Prim.Native.Nat.{ℕ, ◌-◌}
+use Prim.Native.Nat.{ℕ}
 use mathlib.Core.Path.{◌≡◌, sym, ◌∙◌}
 use mathlib.Core.List.{[]}
 use native.Mathlib.Omega.{arith}
 use borrow.Author.Rules.{rules}
 use lib.ListN.{get_or}
-use Rattle.lists.specs.Tables.{table}
-use Rattle.lists.specs.Laws.TablesLaws.{Filling, fill_start, fill_step, fill_length, fill_done, filled_before}
+use Rattle.lists.specs.Laws.TablesLaws.{fill_start, fill_step, fill_length, fill_done, filled_before}
 use Rattle.lists.specs.Laws.PairsLaws.{place_in}
 use Rattle.record.specs.Plan.{Plan}
-use Rattle.block_rules.specs.Delivery.{counted, unaccounted, part_of}
+use Rattle.block_rules.specs.Delivery.{counted, unaccounted}
 use Rattle.block_rules.proofs.DeliveryLaws.{counted_le}
 use Rattle.record_layout.specs.OnBytes.{plan_in}
 use Rattle.block_delivery.specs.Laws.DeliveryLent.{entries_in}

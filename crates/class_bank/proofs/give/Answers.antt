@@ -1,5 +1,4 @@
 -- `class_bank::give` gives the smaller of what a balance has and what is wanted. Assumes nothing.
-use borrow.Author.Rules.{rules}
 use Rattle.class_bank.specs.Laws.Serving.{gave_made}
 use Rattle.class_bank.proofs.give.Goals as goal
 

@@ -4,12 +4,10 @@ use mathlib.Core.Path.{◌≡◌, refl}
 use mathlib.Core.Bool.{Bool, true, false, ◌&&◌}
 use mathlib.Core.Logic.{◌⊎◌, inl, inr}
 use native.Mathlib.Omega.{arith}
-use borrow.Author.Rules.{rules}
 use borrow.Author.Tests.{ltb-true, ltb-false}
 use lib.Dec.{ltb}
 use Rattle.lists.specs.Laws.TestsLaws.{and_left}
-use Rattle.order.specs.Laws.KeptOrder.{turns_of}
-use Rattle.class_bank.specs.Laws.Serving.{Going, serve_start, serve_step, serve_done}
+use Rattle.class_bank.specs.Laws.Serving.{serve_start, serve_step, serve_done}
 use Rattle.class_bank.proofs.serve.Goals as goal
 
 -- one of two tests fails

@@ -1,9 +1,6 @@
 -- `class_bank::serve_all` meets its contract: k classes are settled, one after another. Assumes nothing.
-use Prim.Native.Nat.{◌-◌, ◌≤◌}
-use native.Mathlib.Omega.{arith}
 use borrow.Author.Rules.{rules}
-use Rattle.order.specs.Laws.KeptOrder.{turns_of}
-use Rattle.class_bank.specs.Laws.Serving.{Settling, classes_start, classes_step, classes_done}
+use Rattle.class_bank.specs.Laws.Serving.{classes_start, classes_step, classes_done}
 use Rattle.class_bank.proofs.serve_all.Goals as goal
 
 pub loop-k-init : goal.loop-k-init

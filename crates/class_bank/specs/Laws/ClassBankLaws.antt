@@ -1,29 +1,22 @@
 -- The bank's own calls, steps 1, 2 and 4 of a closing, as the code goes through them. Assumes nothing.
-use Prim.Native.Nat.{ℕ, ◌+◌, ◌-◌, ◌*◌, ◌≤◌, ◌<◌}
-use Rattle.std.specs.Prelude.{◌≡◌, refl, Bool, true, false, ◌&&◌, not, List, leb, length, get_or, set, replicate}
+use Prim.Native.Nat.{ℕ, ◌+◌, ◌≤◌, ◌<◌}
+use Rattle.std.specs.Prelude.{◌≡◌, true, false, List, replicate}
 use Rattle.std.proofs.Math.Path.{sym, ap}
-use Rattle.std.proofs.Common.{◌∙◌, arith, leb-true, le-leb}
+use Rattle.std.proofs.Common.{◌∙◌, arith, le-leb}
 use Rattle.std.proofs.lemmas.Bool.{lt-leb}
-use Rattle.lists.specs.Choice.{if◌then◌else◌}
-use Rattle.lists.specs.Tables.{table}
-use Rattle.lists.specs.Laws.TablesLaws.{is_table, Filling, fill_start, fill_step, fill_here, filled}
+use Rattle.lists.specs.Laws.TablesLaws.{is_table, filled}
 use Rattle.lists.specs.Pairs.{place}
 use Rattle.lists.specs.Laws.PairsLaws.{place_in, place_out, place_table}
-use Rattle.energy.specs.Energy.{portion_up}
-use Rattle.lists.specs.Laws.TestsLaws.{and_left, and_right, and_both, all_at, all_from}
 use Rattle.energy.specs.Limits.{most_generators, most_rate, most_figure}
-use Rattle.energy.specs.Laws.EnergyLaws.{portion_le}
 use Rattle.order.specs.Laws.KeptOrder.{turns_of}
 use Rattle.record.specs.Hours.{classes}
-use Rattle.closing_rules.specs.Drawing.{stock_at, missing_at}
 use Rattle.closing_rules.proofs.DrawingLaws.{stock_most}
 use Rattle.closing_rules.specs.Closing.{sources_of}
 use Rattle.bank.specs.Laws.CreditLaws.{charge_at, credit_at, Crediting, limits_kept}
 use Rattle.class_bank.specs.declared.ClassBank.{ClassBank}
 use Rattle.class_bank.specs.declared.ClassCredit.{ClassCredit}
 use Rattle.class_bank.specs.declared.ClassDraw.{ClassDraw}
-use Rattle.class_bank.specs.declared.ClassLapse.{ClassLapse}
-use Rattle.class_bank.specs.Laws.ClassBankSteps.{credit_of, creditable, credit_answer, stock_after, draw_of, draw_answer, lapse_of}
+use Rattle.class_bank.specs.Laws.ClassBankSteps.{credit_of, creditable, credit_answer, stock_after, draw_of, draw_answer}
 use Rattle.class_bank.specs.Laws.Serving.{ServedAll}
 
 -- ---- step 1

@@ -1,5 +1,5 @@
 -- Where each number of the record's terms and counts stands and each of its lists starts, counted in numbers: the names that contracts and proofs
--- use for the constants of the code. Crate record ties them to the runs of the record (run-starts). Assumes nothing.
+-- use for the constants of the code. Crate record ties them to the runs of the record (run_starts). Assumes nothing.
 use Rattle.std.specs.Prelude.{ℕ}
 
 -- The terms and the counts, a number each.

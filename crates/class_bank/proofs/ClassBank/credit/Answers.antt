@@ -1,7 +1,5 @@
 -- `class_bank::ClassBank::credit` is step 1 within the bank's limits, by the cases of their tests. Assumes nothing.
 use mathlib.Core.Path.{sym, ◌∙◌}
-use native.Mathlib.Omega.{arith}
-use borrow.Author.Rules.{rules}
 use Rattle.class_bank.specs.Laws.ClassBankLaws.{credit_within, credit_beyond, credit_many}
 use Rattle.class_bank.proofs.ClassBank.credit.Goals as goal
 

@@ -1,9 +1,8 @@
 -- `class_bank::ClassBank::credited` is step 1: s balances are charged and credited. Assumes nothing.
-use Prim.Native.Nat.{◌-◌, ◌≤◌}
 use mathlib.Core.Path.{refl}
 use native.Mathlib.Omega.{arith}
 use borrow.Author.Rules.{rules}
-use Rattle.bank.specs.Laws.CreditLaws.{Crediting, credit_start, credit_step, credit_moderate, rate_high, credit_exact}
+use Rattle.bank.specs.Laws.CreditLaws.{credit_start, credit_step, credit_moderate, rate_high, credit_exact}
 use Rattle.class_bank.specs.Laws.ClassBankSteps.{creditable}
 use Rattle.class_bank.specs.Laws.ClassBankLaws.{credit_done}
 use Rattle.class_bank.proofs.ClassBank.credited.Goals as goal

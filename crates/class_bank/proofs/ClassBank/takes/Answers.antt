@@ -1,13 +1,11 @@
 -- `class_bank::ClassBank::takes` tests each balance with what is pending, and the rate. Assumes nothing.
-use Prim.Native.Nat.{◌+◌, ◌-◌}
 use mathlib.Core.Path.{◌∙◌, ap}
 use mathlib.Core.Bool.{Bool, ◌&&◌}
 use lib.Dec.{leb}
 use native.Mathlib.Omega.{arith}
-use Rattle.lists.specs.Laws.TestsLaws.{Testing, test_start, test_step, test_done}
-use Rattle.lists.specs.Pairs.{place}
+use Rattle.lists.specs.Laws.TestsLaws.{test_start, test_step, test_done}
 use Rattle.lists.specs.Laws.PairsLaws.{place_in}
-use Rattle.energy.specs.Limits.{most_figure, most_rate}
+use Rattle.energy.specs.Limits.{most_rate}
 use Rattle.bank.specs.Laws.CreditLaws.{within_limits}
 use Rattle.class_bank.specs.Laws.ClassBankSteps.{creditable}
 use borrow.Author.Rules.{rules}
