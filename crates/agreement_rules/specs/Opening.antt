@@ -1,7 +1,6 @@
 -- Document 01, "The agreement": opening, refusals 2 to 6; document 02, F-7: the switch month, refusal 19, and "for switch month 1 opening sets
 -- it to 0", of months gone. Assumes nothing.
-use Rattle.std.specs.Prelude.{ℕ, ◌*◌, ◌≤◌, ◌<◌, Bool, ◌&&◌, ◌||◌, not, List, [], ◌∷◌, ◌≡◌, eqb, leb, ltb, length, take, drop}
-use Rattle.lists.specs.Choice.{if◌then◌else◌}
+use Rattle.std.specs.Prelude.{ℕ, ◌*◌, ◌≤◌, ◌<◌, Bool, ◌&&◌, ◌||◌, not, List, [], ◌∷◌, ◌≡◌, eqb, leb, ltb, length, take, drop, if◌then◌else◌}
 use Rattle.lists.specs.Tests.{some, within}
 use Rattle.lists.specs.Pairs.{cell}
 use Rattle.lists.specs.Refusals.{first_of}

@@ -1,8 +1,7 @@
 -- Where nothing is scheduled nothing is lost, delivered or settled, so every figure of a block beyond G or C is 0. Assumes nothing.
-use Rattle.std.specs.Prelude.{ℕ, ◌-◌, ◌≤◌, ◌≡◌, Bool, ◌⊎◌}
+use Rattle.std.specs.Prelude.{ℕ, ◌-◌, ◌≤◌, ◌≡◌, Bool, ◌⊎◌, if◌then◌else◌}
 use Rattle.std.proofs.Math.Bool.{true, false}
 use native.Mathlib.Omega.{arith}
-use Rattle.lists.specs.Choice.{if◌then◌else◌}
 use Rattle.energy.specs.Laws.EnergyLaws.{loss_zero}
 use Rattle.order_rules.specs.Laws.SettleLaws.{unmet_le}
 use Rattle.record.specs.Plan.{Plan, deemed, order}

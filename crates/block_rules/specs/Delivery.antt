@@ -1,7 +1,6 @@
 -- Document 01, "Block": rules 1 to 4, what the entry reading of one generator delivers; the loss of rule 3, "and rule 4 with it", is that of
 -- document 02, F-3. Assumes nothing.
-use Rattle.std.specs.Prelude.{ℕ, ◌-◌, min, eqb}
-use Rattle.lists.specs.Choice.{if◌then◌else◌}
+use Rattle.std.specs.Prelude.{ℕ, ◌-◌, min, eqb, if◌then◌else◌}
 use Rattle.energy.specs.Energy.{quarter_hour, loss_on, after_loss}
 use Rattle.sharing.specs.Share.{part}
 use Rattle.record.specs.Plan.{Plan, deemed_kind, deemed, scheduled}

@@ -1,6 +1,5 @@
 -- Document 01, "The book": a list of calls on the book's own figures. Assumes nothing.
-use Rattle.std.specs.Prelude.{ℕ, List, [], ◌∷◌, eqb}
-use Rattle.lists.specs.Choice.{if◌then◌else◌}
+use Rattle.std.specs.Prelude.{ℕ, List, [], ◌∷◌, eqb, if◌then◌else◌}
 use Rattle.record.specs.Book.{Book}
 use Rattle.record.specs.Called.{Rule}
 use Rattle.agreement_rules.specs.Schedule.{schedule_rule}

@@ -1,6 +1,5 @@
 -- Demand 3, over every list of calls on a newly opened unit. Assumes nothing.
-use Rattle.std.specs.Prelude.{ℕ, ◌+◌, ◌*◌, ◌≤◌, ◌<◌, true, false, List, [], ◌∷◌, map, ◌⊎◌, ◌≡◌, eqb, length, get_or, take}
-use Rattle.lists.specs.Choice.{if◌then◌else◌}
+use Rattle.std.specs.Prelude.{ℕ, ◌+◌, ◌*◌, ◌≤◌, ◌<◌, true, false, List, [], ◌∷◌, map, ◌⊎◌, ◌≡◌, eqb, length, get_or, take, if◌then◌else◌}
 use Rattle.lists.specs.Sums.{sum}
 use Rattle.energy.specs.Limits.{most_figure}
 use Rattle.record.specs.Hours.{classes, peak}

@@ -1,12 +1,11 @@
 -- Demand 3 holds on the bytes: the theorem `byte_demand_3`, and that its lists of calls exist. The calls on bytes are calls on the numbers
 -- that the bytes hold, so `demand_3` applies. Assumes nothing.
-use Rattle.std.specs.Prelude.{ℕ, zero, suc, ◌^◌, ◌≡◌, Bool, List, [], ◌∷◌, map, length, take}
+use Rattle.std.specs.Prelude.{ℕ, zero, suc, ◌^◌, ◌≡◌, Bool, List, [], ◌∷◌, map, length, take, if◌then◌else◌}
 use Rattle.std.proofs.Math.Path.{refl, sym, ap}
 use Rattle.std.proofs.Common.{◌∙◌, subst, arith, eqb-true, eq-eqb}
 use Rattle.std.proofs.Math.Bool.{true, false}
 use Rattle.std.proofs.lemmas.Bool.{eqb-false}
 use Rattle.std.proofs.Math.Dec.{eqb}
-use Rattle.lists.specs.Choice.{if◌then◌else◌}
 use Rattle.output_lists.specs.Laws.Bounds.{Moderate}
 use Rattle.codec.specs.Bytes.{encode}
 use Rattle.codec.specs.Laws.BytesLaws.{Below}

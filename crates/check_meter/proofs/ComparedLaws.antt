@@ -1,9 +1,8 @@
 -- The laws by which the day's functions are proved. Assumes nothing.
-use Rattle.std.specs.Prelude.{ℕ, ◌≡◌, refl, Bool, true, false, ◌||◌, ◌&&◌, not, List, eqb, length, take}
+use Rattle.std.specs.Prelude.{ℕ, ◌≡◌, refl, Bool, true, false, ◌||◌, ◌&&◌, not, List, eqb, length, take, if◌then◌else◌}
 use Rattle.std.proofs.Math.Path.{sym}
 use Rattle.std.proofs.Common.{ap, ◌∙◌, arith, eq-eqb, ne_eqb, eqb-true, take_all, length-take-le}
 use Rattle.std.proofs.lemmas.Bool.{not-false}
-use Rattle.lists.specs.Choice.{if◌then◌else◌}
 use Rattle.lists.specs.Refusals.{first_of}
 use Rattle.lists.specs.Laws.TestsLaws.{or_left, or_right}
 use Rattle.lists.specs.Laws.RefusalsLaws.{first_head}

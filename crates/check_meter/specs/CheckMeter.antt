@@ -1,7 +1,6 @@
 -- Document 02, F-1: a day of readings from a main and a check meter on the same line. Assumes nothing.
-use Rattle.std.specs.Prelude.{ℕ, ◌+◌, ◌-◌, ◌≡◌, Bool, ◌&&◌, ◌||◌, not, List, [], ◌∷◌, eqb, ltb, length, get_or}
+use Rattle.std.specs.Prelude.{ℕ, ◌+◌, ◌-◌, ◌≡◌, Bool, ◌&&◌, ◌||◌, not, List, [], ◌∷◌, eqb, ltb, length, get_or, if◌then◌else◌}
 use Rattle.std.specs.Borrow.{Bor}
-use Rattle.lists.specs.Choice.{if◌then◌else◌}
 use Rattle.lists.specs.Tests.{some}
 use Rattle.lists.specs.Sums.{sum}
 use Rattle.lists.specs.Refusals.{first_of}

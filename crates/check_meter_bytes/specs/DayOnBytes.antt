@@ -1,6 +1,5 @@
 -- Document 02, F-1, over byte slices: the days as lists of 4 bytes a number, an output of two numbers of 8 bytes. Assumes nothing.
-use Rattle.std.specs.Prelude.{ℕ, List, [], ◌∷◌, ◌≡◌, eqb, length}
-use Rattle.lists.specs.Choice.{if◌then◌else◌}
+use Rattle.std.specs.Prelude.{ℕ, List, [], ◌∷◌, ◌≡◌, eqb, length, if◌then◌else◌}
 use Rattle.check_meter.specs.CheckMeter.{incomplete, blocks_apart, day_number}
 use Rattle.record_layout.specs.OnBytes.{bytes_after}
 

@@ -1,12 +1,11 @@
 -- What a closing takes up is what the blocks of its month published: the theorems `published_taken_up` and `closing_takes_up`. Of a
 -- block nothing is used but that it publishes. Assumes nothing.
-use Rattle.std.specs.Prelude.{ℕ, ◌+◌, ◌*◌, ◌≡◌, Bool, ◌&&◌, List, [], ◌∷◌, length}
+use Rattle.std.specs.Prelude.{ℕ, ◌+◌, ◌*◌, ◌≡◌, Bool, ◌&&◌, List, [], ◌∷◌, length, if◌then◌else◌}
 use Rattle.std.proofs.Math.Path.{refl}
 use Rattle.std.proofs.Common.{sym, ap, ◌∙◌, arith, eqb-true}
 use Rattle.std.proofs.Math.Bool.{true, false}
 use Rattle.std.proofs.lemmas.Bool.{eqb-false}
 use Rattle.std.proofs.Math.Dec.{eqb}
-use Rattle.lists.specs.Choice.{if◌then◌else◌}
 use Rattle.record.specs.Book.{Book, ClassStocks, by_hours, no_injection, no_consumption, no_stocks}
 use Rattle.record.specs.Stored.{figures}
 use Rattle.record.specs.Laws.SoundLaws.{Facts, facts_cut}

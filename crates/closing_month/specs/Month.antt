@@ -1,8 +1,7 @@
 -- Document 01, "Closing a month": closing rests on the block account only through its published answer. What it takes up is what the
 -- outputs of the month's accepted blocks gave, after every list of calls on a newly opened unit; by hours (document 02, F-7) it takes up of
 -- each class what those of the blocks of that class gave. Assumes nothing.
-use Rattle.std.specs.Prelude.{ℕ, ◌+◌, ◌*◌, ◌<◌, true, List, [], ◌∷◌, ◌≡◌, eqb, length}
-use Rattle.lists.specs.Choice.{if◌then◌else◌}
+use Rattle.std.specs.Prelude.{ℕ, ◌+◌, ◌*◌, ◌<◌, true, List, [], ◌∷◌, ◌≡◌, eqb, length, if◌then◌else◌}
 use Rattle.lists.specs.Sums.{sum}
 use Rattle.record.specs.Plan.{deemed_kind}
 use Rattle.record.specs.Hours.{classes, slot_after, class_of_slot}

@@ -1,7 +1,7 @@
 -- Laws of a closing: every subtraction is exact, what it takes it enters elsewhere, it keeps soundness and the cross totals, and no linked pair is
 -- left with bank before the lapse beside energy supplied, in no class. Assumes nothing.
 use Prim.Native.Nat.{ℕ, ◌+◌, ◌-◌, ◌*◌, ◌≤◌, ◌<◌}
-use Rattle.std.specs.Prelude.{◌≡◌, ◌&&◌, ◌||◌, ◌⊎◌, ltb}
+use Rattle.std.specs.Prelude.{◌≡◌, ◌&&◌, ◌||◌, ◌⊎◌, ltb, if◌then◌else◌}
 use Rattle.std.proofs.Math.Path.{refl, ap}
 use Rattle.std.proofs.Common.{◌∙◌}
 use Rattle.std.proofs.Math.Bool.{Bool, true, false, not}
@@ -11,7 +11,6 @@ use Rattle.std.proofs.Math.Logic.{inl, inr, ⊎_elim}
 use native.Mathlib.Omega.{arith}
 use borrow.Author.Tests.{eq-eqb, ne_eqb, eqb-true, eqb-false, leb-true, leb-false}
 use Rattle.std.proofs.Math.Dec.{eqb, leb}
-use Rattle.lists.specs.Choice.{if◌then◌else◌}
 use Rattle.lists.specs.Sums.{sum}
 use Rattle.lists.specs.Laws.SumsLaws.{sum_cong, sum_add, sum_swap, sum_rows, sum_both_ways}
 use Rattle.lists.specs.Laws.PairsLaws.{row_of, column_of_lem}

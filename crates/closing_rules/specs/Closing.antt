@@ -1,8 +1,7 @@
 -- Document 01, "Closing a month", and document 02, F-7, "Bank by hours": steps 1 to 4, refusal 13, and the call. One closing serves months
 -- before and from the switch month on; FormerClosing says that before it this is document 01's closing, figure by figure.
 -- Assumes nothing.
-use Rattle.std.specs.Prelude.{ℕ, ◌+◌, ◌-◌, ◌*◌, ◌/◌, ◌%◌, Bool, not, ◌||◌, List, [], ◌∷◌, eqb, length}
-use Rattle.lists.specs.Choice.{if◌then◌else◌}
+use Rattle.std.specs.Prelude.{ℕ, ◌+◌, ◌-◌, ◌*◌, ◌/◌, ◌%◌, Bool, not, ◌||◌, List, [], ◌∷◌, eqb, length, if◌then◌else◌}
 use Rattle.lists.specs.Sums.{sum}
 use Rattle.lists.specs.Tables.{table}
 use Rattle.lists.specs.Pairs.{pairs, joined}

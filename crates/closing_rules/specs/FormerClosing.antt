@@ -1,7 +1,6 @@
 -- Document 01's closing as it stands there, in the inter-se order of today (F-2), kept to say what document 02's "closings before it follow the
 -- old rules" means, and that claim, `Former`. proofs/FormerClosingProof proves it. Assumes nothing.
-use Rattle.std.specs.Prelude.{ℕ, ◌+◌, ◌-◌, ◌*◌, ◌≡◌, Bool, true, false, List, [], ◌∷◌}
-use Rattle.lists.specs.Choice.{if◌then◌else◌}
+use Rattle.std.specs.Prelude.{ℕ, ◌+◌, ◌-◌, ◌*◌, ◌≡◌, Bool, true, false, List, [], ◌∷◌, if◌then◌else◌}
 use Rattle.lists.specs.Sums.{sum}
 use Rattle.lists.specs.Tables.{table}
 use Rattle.lists.specs.Pairs.{pairs, joined}

@@ -1,4 +1,3 @@
-pub mod Choice
 pub mod Tables
 pub mod Sums
 pub mod Tests

@@ -1,6 +1,5 @@
 -- A call's refusals, in the order in which they are tested. Assumes nothing.
-use Rattle.std.specs.Prelude.{ℕ, Bool, List, [], ◌∷◌}
-use Rattle.lists.specs.Choice.{if◌then◌else◌}
+use Rattle.std.specs.Prelude.{ℕ, Bool, List, [], ◌∷◌, if◌then◌else◌}
 
 -- the number of the first test that holds; 0 where none does
 unfoldable pub first_of : List (ℕ × Bool) → ℕ

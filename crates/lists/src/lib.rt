@@ -1,8 +1,7 @@
 // Definitions and laws of lists, sums and tests, and four small functions that the calls use.
 #![tactic(auto)]
 
-ghost use Rattle.std.specs.Prelude.{◌≡◌};
-ghost use Rattle.lists.specs.Choice.{if◌then◌else◌};
+ghost use Rattle.std.specs.Prelude.{◌≡◌, if◌then◌else◌};
 ghost use Rattle.lists.specs.Tests.{within};
 
 pub fn wide(x: u32) -> u64

@@ -1,6 +1,5 @@
 -- Settling in an order: the one step that set-off, shortfall and drawing share. Assumes nothing.
-use Rattle.std.specs.Prelude.{ℕ, ◌-◌, min, List, [], ◌∷◌, eqb}
-use Rattle.lists.specs.Choice.{if◌then◌else◌}
+use Rattle.std.specs.Prelude.{ℕ, ◌-◌, min, List, [], ◌∷◌, eqb, if◌then◌else◌}
 
 -- what each generator has left, and what is left to supply
 pub record Rest : Type 0 where

@@ -1,7 +1,6 @@
 -- A call on a stored record. The contracts of schedule, block and closing cite `Called`, and so does the trace of demand 3.
 -- Assumes nothing.
-use Rattle.std.specs.Prelude.{ℕ, List, ◌≡◌, eqb}
-use Rattle.lists.specs.Choice.{if◌then◌else◌}
+use Rattle.std.specs.Prelude.{ℕ, List, ◌≡◌, eqb, if◌then◌else◌}
 use Rattle.record.specs.Book.{Book}
 use Rattle.record.specs.Stored.{figures, stored}
 use Rattle.record.specs.Sound.{sound}

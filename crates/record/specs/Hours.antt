@@ -1,7 +1,6 @@
 -- Document 02, F-7, "Bank by hours": the classes of hours, the class of a block, and from when on they count. What document 02 calls the new
 -- rules is the bank by hours. Assumes nothing.
-use Rattle.std.specs.Prelude.{ℕ, ◌+◌, ◌%◌, Bool, ◌&&◌, ◌||◌, not, eqb, leb}
-use Rattle.lists.specs.Choice.{if◌then◌else◌}
+use Rattle.std.specs.Prelude.{ℕ, ◌+◌, ◌%◌, Bool, ◌&&◌, ◌||◌, not, eqb, leb, if◌then◌else◌}
 use Rattle.lists.specs.Tests.{within}
 
 -- the classes, in the order in which they are settled and stored

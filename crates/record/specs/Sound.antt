@@ -1,6 +1,5 @@
 -- Document 01, "The record", and document 02, F-7: what a sound record is. Assumes nothing.
-use Rattle.std.specs.Prelude.{ℕ, ◌+◌, ◌*◌, Bool, ◌&&◌, ◌||◌, not, eqb, leb, ltb}
-use Rattle.lists.specs.Choice.{if◌then◌else◌}
+use Rattle.std.specs.Prelude.{ℕ, ◌+◌, ◌*◌, Bool, ◌&&◌, ◌||◌, not, eqb, leb, ltb, if◌then◌else◌}
 use Rattle.lists.specs.Sums.{sum}
 use Rattle.lists.specs.Tests.{all, within}
 use Rattle.energy.specs.Limits.{most_generators, most_consumers, last_kind, most_capacity, most_loss, most_rate, most_cycle, most_rank, most_reading, most_month_blocks, most_unit_blocks, most_switch}

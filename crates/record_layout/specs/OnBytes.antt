@@ -1,6 +1,5 @@
 -- A call on the record that bytes hold. Assumes nothing.
-use Rattle.std.specs.Prelude.{ℕ, List, ◌≡◌, eqb}
-use Rattle.lists.specs.Choice.{if◌then◌else◌}
+use Rattle.std.specs.Prelude.{ℕ, List, ◌≡◌, eqb, if◌then◌else◌}
 use Rattle.codec.specs.Bytes.{encode}
 use Rattle.record_places.specs.RecordSize.{words_in}
 use Rattle.record.specs.RecordWords.{words, record_of}

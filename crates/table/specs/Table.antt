@@ -1,8 +1,7 @@
 -- The readings table (document 01): what reading a text gives. How a table is written: TableText of the crate table_text.
 -- The digits and the limit of a value: Values of the crate table_scan.
 -- A text is its list of bytes; places count from 0. Assumes nothing.
-use Rattle.std.specs.Prelude.{◌≡◌, Bool, true, false, not, ◌&&◌, List, [], ◌∷◌, ◌++◌, ℕ, ◌+◌, ◌-◌, ◌*◌, ◌/◌, ◌%◌, length, take, drop, leb, ltb, eqb}
-use Rattle.lists.specs.Choice.{if◌then◌else◌}
+use Rattle.std.specs.Prelude.{◌≡◌, Bool, true, false, not, ◌&&◌, List, [], ◌∷◌, ◌++◌, ℕ, ◌+◌, ◌-◌, ◌*◌, ◌/◌, ◌%◌, length, take, drop, leb, ltb, eqb, if◌then◌else◌}
 use Rattle.lists.specs.Tests.{within}
 use Rattle.lists.specs.Refusals.{first_of}
 use Rattle.table_text.specs.TableText.{printed, names_line}

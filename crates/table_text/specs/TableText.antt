@@ -1,6 +1,5 @@
 -- The one written form of a readings table (document 01, 'Readings table'), as a list of bytes. Assumes nothing.
-use Rattle.std.specs.Prelude.{ℕ, zero, suc, ◌+◌, ◌-◌, ◌/◌, ◌%◌, List, [], ◌∷◌, ◌++◌, ltb, eqb}
-use Rattle.lists.specs.Choice.{if◌then◌else◌}
+use Rattle.std.specs.Prelude.{ℕ, zero, suc, ◌+◌, ◌-◌, ◌/◌, ◌%◌, List, [], ◌∷◌, ◌++◌, ltb, eqb, if◌then◌else◌}
 
 -- The digits of n in base 10, at most k of them; byte 48 is the digit 0.
 -- No leading zero, except 0 itself: what stands before the last digit is left out where n is below 10.

@@ -1,6 +1,5 @@
 -- Document 01, "Readings table": what program `wheel` prints for a text. Assumes nothing.
-use Rattle.std.specs.Prelude.{ℕ, ◌&&◌, List, [], ◌∷◌, ◌++◌, eqb, ltb, length}
-use Rattle.lists.specs.Choice.{if◌then◌else◌}
+use Rattle.std.specs.Prelude.{ℕ, ◌&&◌, List, [], ◌∷◌, ◌++◌, eqb, ltb, length, if◌then◌else◌}
 use Rattle.table_text.specs.TableText.{printed}
 use Rattle.table.specs.Table.{starts_with_names, values, read_number}
 use Rattle.record.specs.Book.{Book}

@@ -1,7 +1,6 @@
 -- Document 01, "The record": the C calls over byte slices. Inputs have 4 bytes a number, outputs and record 8, low byte first. Each call
 -- is the call on the record and the numbers that the bytes hold: its number and every byte that it leaves follow from them. Assumes nothing.
-use Rattle.std.specs.Prelude.{ℕ, ◌/◌, ◌%◌, List, [], ◌≡◌, eqb, length}
-use Rattle.lists.specs.Choice.{if◌then◌else◌}
+use Rattle.std.specs.Prelude.{ℕ, ◌/◌, ◌%◌, List, [], ◌≡◌, eqb, length, if◌then◌else◌}
 use Rattle.lists.specs.Tables.{table}
 use Rattle.codec.specs.Bytes.{decode}
 use Rattle.record.specs.RecordWords.{words}

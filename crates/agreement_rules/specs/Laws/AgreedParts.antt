@@ -1,6 +1,5 @@
 -- The parts of a record that opening makes of the numbers and lists given. Assumes nothing.
-use Rattle.std.specs.Prelude.{ℕ, ◌*◌, ◌&&◌, List, ltb, take, drop}
-use Rattle.lists.specs.Choice.{if◌then◌else◌}
+use Rattle.std.specs.Prelude.{ℕ, ◌*◌, ◌&&◌, List, ltb, take, drop, if◌then◌else◌}
 use Rattle.lists.specs.Tables.{table}
 use Rattle.lists.specs.Pairs.{cell, pairs}
 use Rattle.record.specs.declared.Terms.{Terms}

@@ -1,6 +1,5 @@
 -- How the lists of a call are read into a record's places. Assumes nothing.
-use Rattle.std.specs.Prelude.{ℕ, ◌+◌, ◌*◌, ◌≤◌, ◌<◌, ◌≡◌, ◌&&◌, List, eqb, ltb, length}
-use Rattle.lists.specs.Choice.{if◌then◌else◌}
+use Rattle.std.specs.Prelude.{ℕ, ◌+◌, ◌*◌, ◌≤◌, ◌<◌, ◌≡◌, ◌&&◌, List, eqb, ltb, length, if◌then◌else◌}
 use Rattle.lists.specs.Pairs.{cell, pairs}
 use Rattle.energy.specs.Limits.{most_generators, most_consumers}
 

@@ -1,5 +1,5 @@
 -- An opening is accepted where it is permitted and nowhere else, and what it gives is sound. Assumes nothing.
-use Rattle.std.specs.Prelude.{ℕ, ◌*◌, ◌≤◌, ◌<◌, ◌≡◌, Bool, ◌&&◌, ◌||◌, List, [], ◌∷◌, ◌⊎◌, length, take, drop}
+use Rattle.std.specs.Prelude.{ℕ, ◌*◌, ◌≤◌, ◌<◌, ◌≡◌, Bool, ◌&&◌, ◌||◌, List, [], ◌∷◌, ◌⊎◌, length, take, drop, if◌then◌else◌}
 use Rattle.std.proofs.Math.Path.{refl}
 use Rattle.std.proofs.Common.{sym, ap}
 use Rattle.std.proofs.Math.Bool.{true, false, not}
@@ -8,7 +8,6 @@ use Rattle.std.proofs.Math.Logic.{inl, inr, ⊎_elim}
 use native.Mathlib.Omega.{arith}
 use borrow.Author.Tests.{eqb-true, eqb-false, eq-eqb, ltb-true, ltb-false, leb-true, le-leb, lt-ltb, le-ltb, not-false}
 use Rattle.std.proofs.Math.Dec.{eqb, leb, ltb}
-use Rattle.lists.specs.Choice.{if◌then◌else◌}
 use Rattle.lists.specs.Sums.{sum}
 use Rattle.lists.specs.Laws.SumsLaws.{sum_zero}
 use Rattle.lists.specs.Tests.{some, within}

@@ -1,6 +1,5 @@
 -- Steps 1, 2 and 4 of a closing on arrays, as the code has them. Assumes nothing.
-use Rattle.std.specs.Prelude.{ℕ, Bool, List, leb}
-use Rattle.lists.specs.Choice.{if◌then◌else◌}
+use Rattle.std.specs.Prelude.{ℕ, Bool, List, leb, if◌then◌else◌}
 use Rattle.lists.specs.Tables.{table}
 use Rattle.lists.specs.Pairs.{place}
 use Rattle.energy.specs.Limits.{most_generators}

@@ -1,7 +1,6 @@
 -- What an accepted block publishes for the closing of its month, told by its output and the figures before and after: no rule of a
 -- block is in it. Assumes nothing.
-use Rattle.std.specs.Prelude.{ℕ, ◌+◌, ◌<◌, ◌≡◌, ◌&&◌, List, eqb}
-use Rattle.lists.specs.Choice.{if◌then◌else◌}
+use Rattle.std.specs.Prelude.{ℕ, ◌+◌, ◌<◌, ◌≡◌, ◌&&◌, List, eqb, if◌then◌else◌}
 use Rattle.record.specs.Plan.{deemed_kind}
 use Rattle.record.specs.Hours.{slot_after, class_of_slot}
 use Rattle.record.specs.Book.{Book, by_hours}

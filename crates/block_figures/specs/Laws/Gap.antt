@@ -1,6 +1,5 @@
 -- How much less is delivered of one pair than is scheduled at exit. Assumes nothing.
-use Rattle.std.specs.Prelude.{ℕ, ◌-◌}
-use Rattle.lists.specs.Choice.{if◌then◌else◌}
+use Rattle.std.specs.Prelude.{ℕ, ◌-◌, if◌then◌else◌}
 use Rattle.energy.specs.Energy.{after_loss}
 use Rattle.record.specs.Plan.{deemed_kind}
 

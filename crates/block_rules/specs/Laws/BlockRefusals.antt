@@ -1,8 +1,7 @@
 -- The refusals of a block as the code tests them. Assumes nothing.
-use Rattle.std.specs.Prelude.{ℕ, ◌≡◌, Bool, true, false, ◌&&◌, ◌||◌, List, leb, ltb, length, get_or}
+use Rattle.std.specs.Prelude.{ℕ, ◌≡◌, Bool, true, false, ◌&&◌, ◌||◌, List, leb, ltb, length, get_or, if◌then◌else◌}
 use Rattle.std.proofs.Common.{sym, ◌∙◌, eqb-true}
 use Rattle.std.proofs.Math.Dec.{eqb}
-use Rattle.lists.specs.Choice.{if◌then◌else◌}
 use Rattle.lists.specs.Tests.{some}
 use Rattle.lists.specs.Laws.TestsLaws.{some_same, and_left, and_right}
 use Rattle.lists.specs.Pairs.{place}

@@ -1,6 +1,5 @@
 -- Rule 8 where the totals stand: which numbers of the record a block raises, and by which sums of its output. Assumes nothing.
-use Rattle.std.specs.Prelude.{ℕ, ◌+◌, ◌*◌, ◌≡◌, Bool, true, false, List, length, get_or, set}
-use Rattle.lists.specs.Choice.{if◌then◌else◌}
+use Rattle.std.specs.Prelude.{ℕ, ◌+◌, ◌*◌, ◌≡◌, Bool, true, false, List, length, get_or, set, if◌then◌else◌}
 use Rattle.block_rules.specs.Settlement.{block_output}
 use Rattle.record.specs.Plan.{deemed_kind}
 use Rattle.record.specs.Hours.{slot_after, class_of_slot, hours_apply}

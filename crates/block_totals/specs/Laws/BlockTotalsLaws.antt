@@ -1,8 +1,7 @@
 -- The numbers that a block raises: underdrawn energy by kind, the totals one list after the other, and a class of hours. Assumes nothing.
-use Rattle.std.specs.Prelude.{ℕ, ◌+◌, ◌*◌, ◌≤◌, ◌<◌, ◌≡◌, refl, Bool, true, false, List, length, get_or, set}
+use Rattle.std.specs.Prelude.{ℕ, ◌+◌, ◌*◌, ◌≤◌, ◌<◌, ◌≡◌, refl, Bool, true, false, List, length, get_or, set, if◌then◌else◌}
 use Rattle.std.proofs.Common.{ap, ◌∙◌, arith, get_or-set_other}
 use Rattle.std.specs.Bool.{beq}
-use Rattle.lists.specs.Choice.{if◌then◌else◌}
 use Rattle.energy.specs.Limits.{most_figure}
 use Rattle.output_lists.specs.Laws.Bounds.{Moderate}
 use Rattle.record.specs.Plan.{deemed_kind}

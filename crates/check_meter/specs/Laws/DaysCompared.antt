@@ -1,6 +1,5 @@
 -- What `compare` and `tell` promise. Assumes nothing.
-use Rattle.std.specs.Prelude.{ℕ, Bool, ◌&&◌, List, eqb}
-use Rattle.lists.specs.Choice.{if◌then◌else◌}
+use Rattle.std.specs.Prelude.{ℕ, Bool, ◌&&◌, List, eqb, if◌then◌else◌}
 use Rattle.check_meter.specs.CheckMeter.{incomplete, blocks_apart, day_number}
 use Rattle.check_meter.specs.declared.Comparison.{Comparison}
 

@@ -1,7 +1,6 @@
 -- One pass over both days: what it finds, and the invariant of its loop. Assumes nothing.
-use Rattle.std.specs.Prelude.{ℕ, ◌+◌, ◌≤◌, ◌<◌, ◌≡◌, Bool, true, false, ◌||◌, List, length, get_or}
+use Rattle.std.specs.Prelude.{ℕ, ◌+◌, ◌≤◌, ◌<◌, ◌≡◌, Bool, true, false, ◌||◌, List, length, get_or, if◌then◌else◌}
 use Rattle.std.proofs.Common.{◌∙◌, arith}
-use Rattle.lists.specs.Choice.{if◌then◌else◌}
 use Rattle.lists.specs.Laws.TestsLaws.{Looking, look_start, look_step, look_done}
 use Rattle.lists.specs.Laws.SumsLaws.{Summing, sum_start, sum_step, sum_done}
 use Rattle.check_meter.specs.CheckMeter.{day_blocks, missing, incomplete, further_apart, blocks_apart}

@@ -1,7 +1,6 @@
 -- Steps 1, 2 and 4 of a closing on arrays, as the code has them. A bank's balances are the stocks of a closing: generator g's energy of class k
 -- is number g * 3 + k. Assumes nothing.
-use Rattle.std.specs.Prelude.{ℕ, Bool, ◌&&◌, List, leb, replicate}
-use Rattle.lists.specs.Choice.{if◌then◌else◌}
+use Rattle.std.specs.Prelude.{ℕ, Bool, ◌&&◌, List, leb, replicate, if◌then◌else◌}
 use Rattle.lists.specs.Tables.{table}
 use Rattle.lists.specs.Laws.TablesLaws.{filled}
 use Rattle.lists.specs.Pairs.{place}

@@ -1,9 +1,9 @@
 -- `closing_totals::months_gone` meets its contract: they start again where a lapse is due. Assumes nothing.
+use Rattle.std.specs.Prelude.{if◌then◌else◌}
 use Prim.Native.Nat.{◌+◌}
 use mathlib.Core.Bool.{Bool}
 use mathlib.Core.Path.{◌∙◌, sym, ap}
 use borrow.Author.Rules.{rules}
-use Rattle.lists.specs.Choice.{if◌then◌else◌}
 use Rattle.closing_totals.proofs.months_gone.Goals as goal
 
 pub returns-then-due : goal.returns-then-due

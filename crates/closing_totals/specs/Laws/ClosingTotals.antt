@@ -1,6 +1,5 @@
 -- What a closing makes of a record's numbers where they stand, by its output. Assumes nothing.
-use Rattle.std.specs.Prelude.{ℕ, ◌+◌, ◌*◌, ◌≡◌, Bool, List, get_or, set}
-use Rattle.lists.specs.Choice.{if◌then◌else◌}
+use Rattle.std.specs.Prelude.{ℕ, ◌+◌, ◌*◌, ◌≡◌, Bool, List, get_or, set, if◌then◌else◌}
 use Rattle.record.specs.Stored.{figures}
 use Rattle.record.specs.Laws.SoundLaws.{Facts}
 use Rattle.record.specs.RecordWords.{record_of}

@@ -1,7 +1,6 @@
 -- The numbers that a closing changes, one list after the other. Assumes nothing.
-use Rattle.std.specs.Prelude.{ℕ, ◌+◌, ◌*◌, ◌≡◌, Bool, true, false, List, get_or, set}
+use Rattle.std.specs.Prelude.{ℕ, ◌+◌, ◌*◌, ◌≡◌, Bool, true, false, List, get_or, set, if◌then◌else◌}
 use Rattle.std.proofs.Common.{◌∙◌}
-use Rattle.lists.specs.Choice.{if◌then◌else◌}
 use Rattle.record.specs.Stored.{figures}
 use Rattle.record.specs.declared.Terms.{Terms}
 use Rattle.record.specs.declared.Counts.{Counts}

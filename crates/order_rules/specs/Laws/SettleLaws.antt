@@ -1,12 +1,11 @@
 -- Laws of settling in an order, whatever the order is: nothing is lost, and nobody is left short beside one who has.
 -- Assumes nothing.
-use Rattle.std.specs.Prelude.{ℕ, zero, suc, ◌+◌, ◌-◌, ◌≤◌, ◌<◌, min, ◌≡◌, refl, Bool, true, false, List, [], ◌∷◌, ◌⊎◌, eqb, leb}
+use Rattle.std.specs.Prelude.{ℕ, zero, suc, ◌+◌, ◌-◌, ◌≤◌, ◌<◌, min, ◌≡◌, refl, Bool, true, false, List, [], ◌∷◌, ◌⊎◌, eqb, leb, if◌then◌else◌}
 use Rattle.std.proofs.Common.{sym, ap, ◌∙◌, subst, inl, inr, ⊎_elim, arith, le_refl, le_trans, ne_eqb, eq-eqb, eqb-true, leb-true, leb-false}
 use Rattle.std.proofs.Math.Path.{fun_ext}
 use Rattle.std.proofs.lemmas.Bool.{eqb-false}
 use Rattle.lists.specs.Sums.{sum}
 use Rattle.lists.specs.Laws.SumsLaws.{sum_cong, sum_add}
-use Rattle.lists.specs.Choice.{if◌then◌else◌}
 use Rattle.order_rules.specs.Order.{Standing}
 use Rattle.order_rules.specs.Settle.{lower, settle, given, kept, unmet}
 use Rattle.order_rules.specs.Laws.Members.{In, Below, Before}

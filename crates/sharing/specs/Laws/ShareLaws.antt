@@ -1,10 +1,9 @@
 -- Laws of the share: the parts add up to what is shared, and none is more than its kW bear. Assumes nothing.
-use Rattle.std.specs.Prelude.{ℕ, suc, ◌+◌, ◌-◌, ◌*◌, ◌/◌, ◌≤◌, ◌<◌, ◌≡◌, refl, Bool, true, false, ◌&&◌, List, leb, length, get_or, set, replicate}
+use Rattle.std.specs.Prelude.{ℕ, suc, ◌+◌, ◌-◌, ◌*◌, ◌/◌, ◌≤◌, ◌<◌, ◌≡◌, refl, Bool, true, false, ◌&&◌, List, leb, length, get_or, set, replicate, if◌then◌else◌}
 use Rattle.std.proofs.Common.{sym, ap, ◌∙◌, ⊎_elim, arith, add-one, mul-le-mul, mul-le-mul_left, mul-le-mul_right, mul-add, mul_assoc, mul_comm, le_trans, le_of_eq, eq-zero-or-pos, eq-eqb, ne_eqb, le-leb}
 use Rattle.std.proofs.Math.Nat.{mul-div_cancel, zero-div, mul-zero, add-mul-div_left, div-le_of_le-mul}
 use Rattle.std.proofs.lemmas.Bool.{lt-leb}
 use Rattle.std.proofs.lemmas.List.{get_or-replicate, set-get_or}
-use Rattle.lists.specs.Choice.{if◌then◌else◌}
 use Rattle.lists.specs.Laws.ChoiceLaws.{if_either}
 use Rattle.lists.specs.Sums.{sum}
 use Rattle.lists.specs.Laws.SumsLaws.{sum_none, sum_more, sum_cong, sum_rises, sum_to, sum_part, div_up}

@@ -1,6 +1,5 @@
 -- The contracts of the parts of a call: finding the names line, laying the values, reading the later lines. Assumes nothing.
-use Rattle.std.specs.Prelude.{◌≡◌, true, List, ℕ, ◌/◌, ◌≤◌, ◌<◌, ltb, length}
-use Rattle.lists.specs.Choice.{if◌then◌else◌}
+use Rattle.std.specs.Prelude.{◌≡◌, true, List, ℕ, ◌/◌, ◌≤◌, ◌<◌, ltb, length, if◌then◌else◌}
 use Rattle.table_text.specs.TableText.{names_line}
 use Rattle.table.specs.Table.{starts_with_names, well_formed, numbers, from_start}
 use Rattle.table.specs.declared.Read.{Read}

@@ -1,7 +1,6 @@
 -- The scan accepts a text exactly when the text is the printed form of its numbers, these fit, and they make whole lines. Assumes nothing.
-use Rattle.std.specs.Prelude.{ℕ, zero, suc, ◌+◌, ◌-◌, ◌*◌, ◌/◌, ◌%◌, ◌^◌, ◌≤◌, ◌<◌, ◌≡◌, refl, Bool, true, false, List, [], ◌∷◌, ◌++◌, leb, eqb, length}
+use Rattle.std.specs.Prelude.{ℕ, zero, suc, ◌+◌, ◌-◌, ◌*◌, ◌/◌, ◌%◌, ◌^◌, ◌≤◌, ◌<◌, ◌≡◌, refl, Bool, true, false, List, [], ◌∷◌, ◌++◌, leb, eqb, length, if◌then◌else◌}
 use Rattle.std.proofs.Common.{sym, ap, ◌∙◌, ⊎_elim, append_assoc, eq-zero-or-pos, arith, le-leb, eq-eqb, ne_eqb, leb-true, eqb-true}
-use Rattle.lists.specs.Choice.{if◌then◌else◌}
 use Rattle.lists.specs.Laws.TestsLaws.{and_left, and_right, and_both}
 use Rattle.table_text.specs.TableText.{digits, decimal, separator_after, printed}
 use Rattle.table_text.specs.Laws.TableTextLaws.{digits_one, digits_step, decimal_one, decimal_more}

@@ -1,6 +1,5 @@
 -- The reader's own view of the value lines: one byte after the other, with how far the value at hand has come. Assumes nothing.
-use Rattle.std.specs.Prelude.{Bool, false, List, [], ◌∷◌, ℕ, ◌+◌, ◌-◌, ◌*◌, ◌%◌, leb, eqb}
-use Rattle.lists.specs.Choice.{if◌then◌else◌}
+use Rattle.std.specs.Prelude.{Bool, false, List, [], ◌∷◌, ℕ, ◌+◌, ◌-◌, ◌*◌, ◌%◌, leb, eqb, if◌then◌else◌}
 use Rattle.table_text.specs.TableText.{separator_after}
 use Rattle.table_scan.specs.Values.{is_digit, largest}
 use Rattle.table_scan.specs.declared.Progress.{Progress}

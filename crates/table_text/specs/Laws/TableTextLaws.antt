@@ -1,7 +1,6 @@
 -- Laws of the written form: decimal digits, and the lengths of names and of the names line. Assumes nothing.
-use Rattle.std.specs.Prelude.{ℕ, zero, suc, ◌+◌, ◌-◌, ◌*◌, ◌/◌, ◌%◌, ◌^◌, ◌≤◌, ◌<◌, ◌≡◌, Bool, true, false, List, [], ◌∷◌, ◌++◌, ltb, length, take, get_or}
+use Rattle.std.specs.Prelude.{ℕ, zero, suc, ◌+◌, ◌-◌, ◌*◌, ◌/◌, ◌%◌, ◌^◌, ◌≤◌, ◌<◌, ◌≡◌, Bool, true, false, List, [], ◌∷◌, ◌++◌, ltb, length, take, get_or, if◌then◌else◌}
 use Rattle.std.proofs.Common.{sym, ap, ◌∙◌, ⊎_elim, append_assoc, add-one, eq-zero-or-pos, zero-add, add-zero, add-suc, arith, lt-ltb, le-ltb, length-append, length-take, take-suc}
-use Rattle.lists.specs.Choice.{if◌then◌else◌}
 use Rattle.table_text.specs.TableText.{digits, decimal, separator_after, printed, name, names, names_line}
 
 -- ---- digits

@@ -1,11 +1,10 @@
 -- Laws of the calls of a list, one after the other. Assumes nothing.
-use Rattle.std.specs.Prelude.{ℕ, ◌≡◌, Bool, List, [], ◌∷◌, ◌++◌, length}
+use Rattle.std.specs.Prelude.{ℕ, ◌≡◌, Bool, List, [], ◌∷◌, ◌++◌, length, if◌then◌else◌}
 use Rattle.std.proofs.Math.Path.{refl, subst}
 use Rattle.std.proofs.Common.{sym, ap, ◌∙◌}
 use Rattle.std.proofs.Math.Bool.{true, false}
 use borrow.Author.Tests.{eqb-true, eqb-false, eq-eqb}
 use Rattle.std.proofs.Math.Dec.{eqb}
-use Rattle.lists.specs.Choice.{if◌then◌else◌}
 use Rattle.record.specs.Book.{Book}
 use Rattle.record.specs.Stored.{figures}
 use Rattle.record.specs.Sound.{sound}

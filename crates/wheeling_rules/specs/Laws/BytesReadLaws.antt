@@ -1,9 +1,8 @@
 -- Bytes read as numbers: whole counts, too many, and no whole count. Assumes nothing.
-use Rattle.std.specs.Prelude.{ℕ, ◌*◌, ◌/◌, ◌%◌, ◌^◌, ◌≤◌, ◌<◌, ◌≡◌, refl, Bool, true, false, List, [], ◌++◌, eqb, length, take, drop}
+use Rattle.std.specs.Prelude.{ℕ, ◌*◌, ◌/◌, ◌%◌, ◌^◌, ◌≤◌, ◌<◌, ◌≡◌, refl, Bool, true, false, List, [], ◌++◌, eqb, length, take, drop, if◌then◌else◌}
 use Rattle.std.proofs.Math.Path.{sym}
 use Rattle.std.proofs.Common.{ap, ◌∙◌, inl, inr, arith, eqb-true, eq-eqb, ne_eqb, length-take-le, take_at}
 use borrow.Table.Elements.{same_len}
-use Rattle.lists.specs.Choice.{if◌then◌else◌}
 use Rattle.lists.specs.Laws.TablesLaws.{length_table}
 use Rattle.codec.specs.Bytes.{encode, decode}
 use Rattle.codec.specs.Laws.BytesLaws.{Below, length_encode, length_decode, decode_encode}
