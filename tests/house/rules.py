@@ -133,7 +133,7 @@ def missing_definitions(words):
     """A file, then names in it."""
     file = None
     for token in TOKEN.findall(words):
-        if "/specs/" in token:
+        if "/specs/" in token or "/proofs/" in token:
             file = token
             if definitions(file) is None:
                 yield f"no file of specifications {file}"
@@ -208,7 +208,7 @@ def tests_of_refusals():
 
 def bench_fields():
     """The fields of the theorem of the bench cases."""
-    return re.findall(r"^  pub ([\w-]+) :", (CRATES / "book" / "specs" / "Laws" / "BenchCases.antt").read_text(), re.M)
+    return re.findall(r"^  pub ([\w-]+) :", (CRATES / "book" / "proofs" / "BenchCases.antt").read_text(), re.M)
 
 
 def numbered_bench_cases():
@@ -298,13 +298,13 @@ def check_bench(found):
 def check_everywhere(text):
     """What the rest of the page names: anything that looks like a file, a function or an edit."""
     for token in sorted(set(TOKEN.findall(text))):
-        if re.fullmatch(r"\w+/specs/[\w/]+", token) and definitions(token) is None:
+        if re.fullmatch(r"\w+/(?:specs|proofs)/[\w/]+", token) and definitions(token) is None:
             yield f"no file of specifications {token}"
         elif re.fullmatch(r"(?:crates|tests|docs)/[\w./-]+", token) and not (REPOSITORY / token).exists():
             yield f"no file {token}"
         elif re.fullmatch(r"\w+(?:::\w+)+", token) and not in_code(token):
             yield f"no function {token}"
-        elif re.fullmatch(r"[a-z_]+/\w+", token) and "/specs/" not in token and not token.startswith(("tests/", "docs/", "crates/")):
+        elif re.fullmatch(r"[a-z_]+/\w+", token) and "/specs/" not in token and "/proofs/" not in token and not token.startswith(("tests/", "docs/", "crates/")):
             yield from missing_edits(f"`{token}`")
 
 
