@@ -11,7 +11,8 @@ use Rattle.record.specs.Called.{number_on}
 use Rattle.record.specs.Laws.CalledLaws.{accepted_sound, number_sound, record_facts}
 use Rattle.record.specs.declared.Record.{Record}
 use Rattle.block_rules.specs.Block.{block_length, entry_of, exit_of, block_rule}
-use Rattle.block_rules.proofs.BlockLaws.{Enterable, accepted_enterable}
+use Rattle.block_rules.specs.Laws.Enterable.{Enterable}
+use Rattle.block_rules.proofs.BlockLaws.{accepted_enterable}
 use Rattle.block_rules.proofs.BlockRoom.{output_moderate}
 use Rattle.block_rules.proofs.BlockSettleable.{settleable}
 

@@ -20,18 +20,9 @@ use Rattle.record.specs.Book.{Book}
 use Rattle.record.specs.Sound.{bank_total, pending_total, open_total}
 use Rattle.record.specs.Laws.CalledLaws.{Keeps}
 use Rattle.record.specs.Laws.SoundLaws.{Facts, GeneratorFacts, ConsumerFacts}
+use Rattle.block_rules.specs.Laws.Enterable.{Enterable}
 use Rattle.block_rules.specs.Block.{underdrawn_sum, generator_after_block, consumer_after_block, after_block, block_length, entry_of, exit_of, block_number, block_refusal, block_rule}
 use Rattle.block_rules.proofs.BlockClasses.{classes_after_lem, no_fourth}
-
--- a block to which no number applies
-pub record Enterable (entry exit : List ℕ) (size : ℕ) (b : Book) : Type 0 where
-  pub entry_size : length entry ≡ b.plan.G
-  pub exit_size : length exit ≡ b.plan.C
-  pub output_size : size ≡ block_length b.plan.G b.plan.C
-  pub entry_most : (g : ℕ) → entry_of entry exit b g ≤ most_reading
-  pub exit_most : (c : ℕ) → exit_of entry exit b c ≤ most_reading
-  pub monthblocks : b.monthblocks < most_month_blocks
-  pub unitblocks : b.unitblocks < most_unit_blocks
 
 -- a length other than stated is refusal 2
 pub block_sized : (entry exit : List ℕ) (size : ℕ) (b : Book) →

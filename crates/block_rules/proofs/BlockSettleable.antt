@@ -5,7 +5,8 @@ use Rattle.block_rules.specs.Laws.Settleable.{Settleable}
 use Rattle.record.specs.Book.{Book}
 use Rattle.record.specs.Laws.SoundLaws.{Facts, pair_beyond}
 use Rattle.block_rules.specs.Block.{entry_of, exit_of}
-use Rattle.block_rules.proofs.BlockLaws.{Enterable, entry_out, exit_out}
+use Rattle.block_rules.specs.Laws.Enterable.{Enterable}
+use Rattle.block_rules.proofs.BlockLaws.{entry_out, exit_out}
 
 pub settleable : (entry exit : List ℕ) (size : ℕ) (b : Book) → Facts b → Enterable entry exit size b → Settleable b.plan (entry_of entry exit b) (exit_of entry exit b)
 settleable entry exit size b f ok =

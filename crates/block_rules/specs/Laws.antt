@@ -3,3 +3,4 @@ pub mod DeliveredIn
 pub mod Settleable
 pub mod OutputPlaces
 pub mod BlockRefusals
+pub mod Enterable

@@ -1,1 +1,2 @@
 pub mod HoursCases
+pub mod BenchCases

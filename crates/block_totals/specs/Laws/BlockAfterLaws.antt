@@ -35,7 +35,7 @@ use Rattle.record_layout.specs.Laws.LayoutLaws.{bytes_of_record}
 use Rattle.record_layout.specs.Laws.FigurePlaces.{kind_place, switch_places}
 use Rattle.record_layout.specs.Laws.RecordKept.{changed_record, record_shape, numbers_low}
 use Rattle.block_rules.specs.Block.{pending_added, inadvertent_added, class_of_block, adds_to, generator_after_block, consumer_after_block, class_after_block, after_block, block_length, entry_of, exit_of}
-use Rattle.block_rules.proofs.BlockLaws.{Enterable}
+use Rattle.block_rules.specs.Laws.Enterable.{Enterable}
 use Rattle.block_rules.proofs.BlockClasses.{class_few}
 use Rattle.block_rules.proofs.BlockSettleable.{settleable}
 use Rattle.block_rules.proofs.BlockRoom.{output_moderate}

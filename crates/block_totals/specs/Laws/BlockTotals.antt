@@ -9,7 +9,7 @@ use Rattle.record_layout.specs.OnBytes.{book_in, record_in}
 use Rattle.record_layout.specs.Laws.NumbersRaised.{raised, from}
 use Rattle.record_runs.specs.Laws.Raise.{row_sum, column_sum, OutputLists}
 use Rattle.block_rules.specs.Block.{entry_of, exit_of}
-use Rattle.block_rules.proofs.BlockLaws.{Enterable}
+use Rattle.block_rules.specs.Laws.Enterable.{Enterable}
 use Rattle.record_places.specs.RecordSize.{record_bytes}
 use Rattle.record_places.specs.Laws.Places.{unit_blocks_at, month_blocks_at, agreed_at, injected_at, unaccounted_at, lost_at, generator_set_off_at, inadvertent_at, pending_at, metered_at, consumer_set_off_at, shortfall_at, outstanding_at, switch_month_at, closings_at, off_peak_at}
 
