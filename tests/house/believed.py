@@ -6,8 +6,8 @@
 
 Believed is what the promises of the public calls, the two claims of demand 3, the claim of the closings before the switch month and the
 claim of a month are made of: the files that their text names, and all that these import. Everything else in specs/ is proved of it. So
-that a reader can tell the two apart, crates/*/specs/*.antt are exactly the believed files, and the others stand in crates/*/specs/Laws.
-A believed file holds definitions only.
+that a reader can tell the two apart, crates/*/specs/*.antt are exactly the believed files, and the others stand in crates/*/specs/Laws,
+or in crates/*/proofs where only proofs cite them. A believed file holds definitions only, and nothing of proofs/.
 """
 
 import re
@@ -27,6 +27,7 @@ STARTS = ["opening::opening", "schedule::schedule", "block::block", "closing::cl
 
 FUNCTION = re.compile(r'^(?:pub )?(extern "C" )?fn (\w+)(?:<[^>]*>)?\(.*?^\{', re.S | re.M)
 IMPORT = re.compile(r"^\s*(?:ghost )?use Rattle\.(\w+)\.specs\.((?:Laws\.)?\w+)(?:\.\{([^}]*)\})?", re.M)
+PROOFS = re.compile(r"^\s*use Rattle\.\w+\.proofs\b", re.M)
 KIT = {"core", "std"}  # whose words are the language's: they are believed with the kit
 INDEXES = {"Lib", "Laws"}  # files that only name others
 
@@ -142,6 +143,7 @@ def check(files):
             faults.append(f"{crate}/specs/{module}: no promise and no claim needs it: it belongs into specs/Laws")
         else:
             faults += [f"{crate}/specs/{module}: `{law}` is a law among what is believed" for law in laws_in(path)]
+            faults += [f"{crate}/specs/{module}: it imports from proofs/, and it is believed"] * bool(PROOFS.search(path.read_text()))
     faults += [f"{crate}/specs/{module}: it is believed, and stands among the laws" for crate, module in sorted(files) if "." in module]
     if table(files) not in ASSURANCE.read_text():
         faults.append("docs/ASSURANCE.md: its table of believed files is not what `tests/house/believed.py --table` prints")
@@ -160,7 +162,7 @@ def main(words):
     faults = check(files)
     for fault in faults:
         print(f"believed: {fault}")
-    laws = [path for path in CRATES.glob("*/specs/Laws/*.antt")]
+    laws = [path for form in ("*/specs/Laws/*.antt", "*/proofs/*.antt") for path in CRATES.glob(form) if path.stem not in INDEXES]
     print(f"believed: {len(files)} files to believe, {len(laws)} files of laws; {len(faults)} in the wrong place")
     return 1 if faults else 0
 

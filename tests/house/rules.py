@@ -29,12 +29,14 @@ from second.paper_cases import READER_EDGES, WHEEL_REFUSALS  # noqa: E402
 from wheel_cases import COMPARED, FIXED  # noqa: E402
 from wrong_rules import WRONG_RULES  # noqa: E402
 
+BENCH_CASES = "book/proofs/BenchCases"
 BENCH_TABLES = ("Case", "Case of F-7")
 NUMBERED = [f"Rule {n}" for n in range(1, 9)] + [f"Step {n}" for n in range(1, 5)]
 FIELDS = ("defined", "code", "edits", "tests")
 NONE = re.compile(r"none\b")
 QUOTED = re.compile(r'(case|wrong rule|fault|text) "([^"]+)"')
 TOKEN = re.compile(r"`([^`]+)`")
+FILE = re.compile(r"\w+/(?:specs|proofs)/[\w/]+")  # below crates/, without its ending
 DEFINED = re.compile(r"^\s*(?:(?:abbrev|unfoldable) )*pub (?:record |data )?([^\s:({]+)", re.M)
 
 
@@ -99,7 +101,7 @@ def table(lines, first):
 
 @cache
 def definitions(file):
-    """The names that a file of specifications defines, fields included; None where there is no such file."""
+    """The names that a file of specifications or of theorems defines, fields included; None where there is no such file."""
     path = CRATES / (file + ".antt")
     return set(DEFINED.findall(path.read_text())) if path.is_file() else None
 
@@ -133,12 +135,12 @@ def missing_definitions(words):
     """A file, then names in it."""
     file = None
     for token in TOKEN.findall(words):
-        if "/specs/" in token or "/proofs/" in token:
+        if FILE.fullmatch(token):
             file = token
             if definitions(file) is None:
-                yield f"no file of specifications {file}"
+                yield f"no file {file}"
         elif file is None:
-            yield f"`{token}` stands after no file of specifications"
+            yield f"`{token}` stands after no file of specifications or of theorems"
         elif definitions(file) is not None and token not in definitions(file):
             yield f"{file} does not define {token}"
 
@@ -208,7 +210,7 @@ def tests_of_refusals():
 
 def bench_fields():
     """The fields of the theorem of the bench cases."""
-    return re.findall(r"^  pub ([\w-]+) :", (CRATES / "book" / "proofs" / "BenchCases.antt").read_text(), re.M)
+    return re.findall(r"^  pub ([\w-]+) :", (CRATES / (BENCH_CASES + ".antt")).read_text(), re.M)
 
 
 def numbered_bench_cases():
@@ -298,13 +300,13 @@ def check_bench(found):
 def check_everywhere(text):
     """What the rest of the page names: anything that looks like a file, a function or an edit."""
     for token in sorted(set(TOKEN.findall(text))):
-        if re.fullmatch(r"\w+/(?:specs|proofs)/[\w/]+", token) and definitions(token) is None:
-            yield f"no file of specifications {token}"
+        if FILE.fullmatch(token) and definitions(token) is None:
+            yield f"no file {token}"
         elif re.fullmatch(r"(?:crates|tests|docs)/[\w./-]+", token) and not (REPOSITORY / token).exists():
             yield f"no file {token}"
         elif re.fullmatch(r"\w+(?:::\w+)+", token) and not in_code(token):
             yield f"no function {token}"
-        elif re.fullmatch(r"[a-z_]+/\w+", token) and "/specs/" not in token and "/proofs/" not in token and not token.startswith(("tests/", "docs/", "crates/")):
+        elif re.fullmatch(r"[a-z_]+/\w+", token) and not token.startswith(("tests/", "docs/", "crates/")):
             yield from missing_edits(f"`{token}`")
 
 
