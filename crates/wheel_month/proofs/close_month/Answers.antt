@@ -1,5 +1,4 @@
 -- `wheel_month::close_month` meets its contract: one closing. Assumes nothing.
-use borrow.Author.Rules.{rules}
 use Rattle.book.specs.BookCalls.{closing, rule_of}
 use Rattle.wheel_month.specs.Laws.CarriedLaws.{carried_on}
 use Rattle.wheel_month.proofs.close_month.Goals as goal

@@ -1,7 +1,6 @@
 -- `wheel_month::enter_and_close` meets its contract: the lines, and the closing after them. Assumes nothing.
 use mathlib.Core.List.{[], ◌∷◌}
 use native.Mathlib.Omega.{arith}
-use borrow.Author.Rules.{rules}
 use Rattle.book.specs.BookCalls.{closing}
 use Rattle.wheel_month.specs.Laws.CarriedLaws.{carried_then, carried_stop, carried_ready}
 use Rattle.wheel_month.proofs.enter_and_close.Goals as goal

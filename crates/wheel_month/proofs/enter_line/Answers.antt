@@ -1,6 +1,5 @@
 -- `wheel_month::enter_line` meets its contract: one block. Assumes nothing.
 use mathlib.Core.List.{[], ◌∷◌}
-use borrow.Author.Rules.{rules}
 use Rattle.book.specs.BookCalls.{block, rule_of}
 use Rattle.wheel_month.specs.Laws.CarriedLaws.{carried_on}
 use Rattle.wheel_month.proofs.enter_line.Goals as goal

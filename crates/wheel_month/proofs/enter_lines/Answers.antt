@@ -1,9 +1,7 @@
 -- `wheel_month::enter_lines` meets its contract. The loop's invariant: the lines after i values, carried out on the record, carry out all. Assumes nothing.
-use Prim.Native.Nat.{◌-◌}
 use native.Mathlib.Omega.{arith}
 use borrow.Author.Rules.{rules}
-use lib.ListN.{length}
-use Rattle.wheel_month.specs.Laws.Entering.{Entering, entering_start, entering_step, entering_stop, entering_done}
+use Rattle.wheel_month.specs.Laws.Entering.{entering_start, entering_step, entering_stop, entering_done}
 use Rattle.wheel_month.proofs.enter_lines.Goals as goal
 
 pub loop-i-init : goal.loop-i-init

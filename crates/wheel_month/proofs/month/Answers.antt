@@ -4,7 +4,7 @@ use Rattle.wheel_month.specs.Laws.Entering.{month_ready, month_carried}
 use Rattle.wheel_month.proofs.month.Goals as goal
 
 pub enter_and_close-number-requires : goal.enter_and_close-number-requires
-enter_and_close-number-requires c = let agreed = c.agreement_a in month_ready agreed.new.0 agreed.ensures (search rules)
+enter_and_close-number-requires c = let agreed = c.agreement_a in month_ready agreed.new.s agreed.ensures (search rules)
 
 pub returns : goal.returns
 returns c =
