@@ -29,7 +29,7 @@ from second.paper_cases import READER_EDGES, WHEEL_REFUSALS  # noqa: E402
 from wheel_cases import COMPARED, FIXED  # noqa: E402
 from wrong_rules import WRONG_RULES  # noqa: E402
 
-BENCH_CASES = "book/proofs/BenchCases"
+BENCH_CASES = "book/specs/Laws/BenchCases"
 BENCH_TABLES = ("Case", "Case of F-7")
 NUMBERED = [f"Rule {n}" for n in range(1, 9)] + [f"Step {n}" for n in range(1, 5)]
 FIELDS = ("defined", "code", "edits", "tests")
