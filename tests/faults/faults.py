@@ -50,25 +50,45 @@ READER = Tested("the reader", TESTS / "texts" / "reader.py", "table",
                 TESTS / "texts" / "reader.rt.in")
 ALL_TESTED = (CALLS, HANDED_BACK, READER)
 
+# The reader's test of G and C.
+IN_RANGE = "(1..=8).contains(&g) && (1..=16).contains(&c)"
+
+
+def digit_test(test):
+    """The reader asks `test` of a byte wherever it asks whether it is a digit."""
+    return ("first_byte b }\n{\n    if b.is_ascii_digit() {",
+            f"first_byte b }}\n{{\n    if {test} {{",
+            "later_byte n b sep }\n{\n    if b.is_ascii_digit() {",
+            f"later_byte n b sep }}\n{{\n    if {test} {{",
+            "!b.is_ascii_digit())\n}", f"!{test})\n}}",
+            "|b| !b.is_ascii_digit()", f"|&&b| !{test}",
+            "if !b.is_ascii_digit() {", f"if !{test} {{")
+
+
 # By part and name: old text and new text, at times several of both. An old text stands once in all
 # the source under test, so that it also says which file is changed. `*::` in it stands for the path
 # before a name, whatever the crate or module is called; in the new text for the path found there,
 # the first for the first and so on.
 FAULTS = {
     "opening": {
-        "gone equal to the cycle allowed": ("& (gone < cycle)", "& (gone <= cycle)"),
+        "gone equal to the cycle allowed": ("&& gone < cycle", "&& gone <= cycle"),
         "kind 4 allowed": ("n, 0, *::LAST_KIND", "n, 0, 4"),
         "links over 1 allowed":
-            ("any_outside(pair_list, 0, count, 0, 1)", "any_outside(pair_list, 0, count, 0, 2)"),
-        "rate of 5,001 allowed": ("wide(rate) <= *::MOST_RATE", "wide(rate) <= 5_001"),
+            ("any_outside(asked.pair_list, 0, count, 0, 1)",
+             "any_outside(asked.pair_list, 0, count, 0, 2)"),
+        "rate of 5,001 allowed": ("from(rate) <= *::MOST_RATE", "from(rate) <= 5_001"),
         "losses read from the links": ("spread(list, n * m, n, m)", "spread(list, 0, n, m)"),
         "longer pair list allowed":
             ("pair_list.len() == 2 * (n * m)", "2 * (n * m) <= pair_list.len()"),
-        "16 consumers refused": ("(m <= 16)", "(m <= 15)"),
+        "16 consumers refused": ("(1..=16).contains(&m)", "(1..=15).contains(&m)"),
     },
     "schedule": {
         "refusal 8 before 7":
-            ("first(unlinked, 7, *::first(over, 8,", "first(over, 8, *::first(unlinked, 7,"),
+            ("    if off_link(link, n, m, kws) {\n        return Err(Refusal::NotLinked);\n    }\n",
+             "",
+             "        return Err(Refusal::OverCapacity);\n    }\n",
+             "        return Err(Refusal::OverCapacity);\n    }\n"
+             "    if off_link(link, n, m, kws) {\n        return Err(Refusal::NotLinked);\n    }\n"),
         "rank 0 allowed": ("any_outside(ranks, 0, count, 1,", "any_outside(ranks, 0, count, 0,"),
         "kW on unlinked pairs allowed": ("(0 < kws[from + c])", "(400_000 < kws[from + c])"),
         "kW stored as ranks":
@@ -88,25 +108,27 @@ FAULTS = {
         "reading limit one low": ("*::MOST_READING < ", "199_999_999 < "),
         "reading limit one high": ("*::MOST_READING < ", "200_000_001 < "),
         "refusal 12 before 11":
-            ("MOST_UNIT_BLOCKS <= counts.unitblocks, 12, 0)",
-             "MOST_MONTH_BLOCKS <= counts.monthblocks, 11, 0)",
-             "MOST_MONTH_BLOCKS <= counts.monthblocks,\n            11,",
-             "MOST_UNIT_BLOCKS <= counts.unitblocks,\n            12,"),
+            ("    if *::MOST_MONTH_BLOCKS <= counts.monthblocks {\n"
+             "        return Err(Refusal::MonthFull);\n    }\n",
+             "",
+             "        return Err(Refusal::UnitFull);\n    }\n",
+             "        return Err(Refusal::UnitFull);\n    }\n"
+             "    if record::MOST_MONTH_BLOCKS <= counts.monthblocks {\n"
+             "        return Err(Refusal::MonthFull);\n    }\n"),
         "month blocks not raised":
             ("put_at(s, *::MONTH_BLOCKS, counts.monthblocks + 1);",
              "put_at(s, *::MONTH_BLOCKS, counts.monthblocks);"),
         "metered by remainder":
-            ("raise_readings(s, *::METERED, exit, m);",
-             "raise_numbers(s, *::METERED, out, 4 * size + n, m);"),
+            ("raise(s, *::METERED, m, |c| u64::from(exit[c]));",
+             "raise(s, *::METERED, m, |c| out[4 * size + n + c]);"),
         "shortfall listed as underdrawn":
-            ("*::put_column(&mut out[third..fourth], n, m, c, short);",
-             "let mut g: usize = 0;\n    while g < n {\n"
-             "        out[third + g * m + c] = out[second + g * m + c];\n        g += 1;\n    }"),
+            ("*::put_column(shortfall, n, m, c, &short);",
+             "for g in 0..n {\n        shortfall[g * m + c] = underdrawn[g * m + c];\n    }"),
         "all counted where nothing is scheduled":
             ("    if scheduled.0 == 0 {\n        return 0;",
              "    if scheduled.0 == 0 {\n        return entry;"),
         "scheduled at exit without loss":
-            ("scheduled.0 - lost.0 - delivered", "scheduled.0 - delivered"),
+            ("scheduled.0 - *::loss(scheduled, rate).0 - delivered", "scheduled.0 - delivered"),
         "loss with halves to the even number":
             ("(rest * rate + 5_000) / 10_000",
              "(rest * rate + 4_999 + (whole * rate + rest * rate / 10_000) % 2) / 10_000"),
@@ -121,23 +143,25 @@ FAULTS = {
         "running shares rounded up":
             ("let share = k * sum / all;", "let share = (k * sum + all - 1) / all;"),
         "shortfall is what is not used of it":
-            ("*::put_column(&mut out[third..fourth], n, m, c, short);", ""),
+            ("*::put_column(shortfall, n, m, c, &short);", ""),
     },
     "closing": {
-        "open not reset": ("*::clear_numbers(s, *::OUTSTANDING, m);", ""),
-        "pending not reset": ("*::clear_numbers(s, *::PENDING, n);", ""),
+        "open not reset": ("*::clear(s, *::OUTSTANDING, m);", ""),
+        "pending not reset": ("*::clear(s, *::PENDING, n);", ""),
         "lapsed and bank swapped in the output":
-            ("put_list(out, n, &lapsed, n);", "put_list(out, n, &balance, n);",
-             "put_list(out, bank_at, &balance, n);", "put_list(out, bank_at, &lapsed, n);"),
+            ("out[n..bank_at].copy_from_slice(&lapsed[..n]);",
+             "out[n..bank_at].copy_from_slice(&balance[..n]);",
+             "out[bank_at..open_at].copy_from_slice(&balance[..n]);",
+             "out[bank_at..open_at].copy_from_slice(&lapsed[..n]);"),
         "open listed after the drawing":
-            ("put_list(out, open_at, &outstanding, m);",
-             "put_list(out, open_at, &supplied, m);"),
-        "longer output allowed": ("size == n * m + 3 * n + 2 * m", "n * m + 3 * n + 2 * m <= size"),
+            ("copy_from_slice(&outstanding[..m]);", "copy_from_slice(&supplied[..m]);"),
+        "longer output allowed": ("size != n * m + 3 * n + 2 * m", "size < n * m + 3 * n + 2 * m"),
         "charge not taken from the bank":
-            ("balance[g] += pending[g] - due.0;", "balance[g] += pending[g];"),
+            ("+= pending[s] - due.0;", "+= pending[s] - lists::only_if(N != 8, due.0);"),
         "all consumers draw what the first lacks":
-            ("keys, outstanding[c])", "keys, outstanding[0])"),
-        "months gone not reset": ("{ 0 } else { gone + 1 }", "{ gone } else { gone + 1 }"),
+            ("&suppliers, outstanding[c])", "&suppliers, outstanding[0])"),
+        "months gone not reset":
+            ("{ 0 } else { counts.gone + 1 }", "{ counts.gone } else { counts.gone + 1 }"),
     },
     "sound": {
         "month blocks over unit blocks allowed":
@@ -169,18 +193,25 @@ FAULTS = {
         "slots not round": ("month % 96 + 1", "month + 1"),
         "slot over the unit's blocks":
             ("raise_hours(s, counts.monthblocks,", "raise_hours(s, counts.unitblocks,"),
-        "slot 37 normal": ("in_range(37, 68, slot)", "in_range(38, 68, slot)"),
-        "slot 69 off-peak": ("in_range(37, 68, slot)", "in_range(37, 69, slot)"),
-        "slot 20 peak": ("in_range(21, 36, slot)", "in_range(20, 36, slot)"),
-        "slot 77 normal": ("in_range(77, 92, slot)", "in_range(78, 92, slot)"),
-        "slot 92 normal": ("in_range(77, 92, slot)", "in_range(77, 91, slot)"),
+        "slot 37 normal": ("37..=68", "38..=68"),
+        "slot 69 off-peak": ("37..=68", "37..=69"),
+        "slot 20 peak": ("21..=36", "20..=36"),
+        "slot 77 normal": ("77..=92", "78..=92"),
+        "slot 92 normal": ("77..=92", "77..=91"),
     },
     "hours: opening": {
-        "switch month of 1,201 allowed": ("wide(switch) > *::MOST_SWITCH", "wide(switch) > 1_201"),
+        "switch month of 1,201 allowed":
+            ("from(asked.switch) > *::MOST_SWITCH", "from(asked.switch) > 1_201"),
         "refusal 19 before 6":
-            ("first(term, 6, *::first(late, 19, 0))", "first(late, 19, *::first(term, 6, 0))"),
+            ("    if !terms_fit(asked.rate, asked.cycle, asked.gone) {\n"
+             "        return Err(Refusal::WrongTerms);\n    }\n",
+             "",
+             "        return Err(Refusal::WrongSwitchMonth);\n    }\n",
+             "        return Err(Refusal::WrongSwitchMonth);\n    }\n"
+             "    if !terms_fit(asked.rate, asked.cycle, asked.gone) {\n"
+             "        return Err(Refusal::WrongTerms);\n    }\n"),
         "months gone kept at opening with switch month 1":
-            ("*::first(switch == 1, 0, gone)", "gone"),
+            ("if switch == 1 { 0 } else { gone }", "gone"),
         "closings counted from 1":
             ("Switch { month, closings: 0 }", "Switch { month, closings: 1 }"),
         "record of 5,752 bytes opened":
@@ -190,76 +221,77 @@ FAULTS = {
     },
     "hours: block": {
         "class pending not raised":
-            ("raise_by_kind(s, pending, true, out, 2 * size, n, m);", ""),
-        "class open not raised": ("*::raise_numbers(s, remaining, out, 4 * size + n, m);", ""),
+            ("*::raise(s, pending, n, |g| {\n"
+             "        underdrawn_by_kind(kinds[g], true, out, 2 * size, m, g)\n    });", ""),
+        "class open not raised": ("*::raise(s, remaining, m, |c| out[4 * size + n + c]);", ""),
         "classes raised before the switch":
-            ("if *::apply(switch, closings) {", "if switch <= 1_200 {"),
+            ("if *::apply(switch) {\n        let class",
+             "if switch.month <= 1_200 {\n        let class"),
     },
     "hours: closing": {
         "charge not taken from the class banks":
-            ("balance[s] += pending[s] - due.0;", "balance[s] += pending[s];"),
+            ("+= pending[s] - due.0;", "+= pending[s] - lists::only_if(N != 24, due.0);"),
         "charge on one class only":
             ("portion_up(Wh(pending[s]), rate)",
-             "portion_up(Wh(lists::only_if(s % 3 == 2, pending[s])), rate)"),
+             "portion_up(Wh(lists::only_if((N == 8) | (s % 3 == 2), pending[s])), rate)"),
         "charges of the classes not all added":
-            ("charge[s] = due.0;", "charge[s] = lists::only_if(s % 3 != 1, due.0);"),
+            ("charge[s] = due.0;", "charge[s] = lists::only_if((N == 8) | (s % 3 != 1), due.0);"),
         "supplied of peak only": ("lacking[0] + lacking[1] + lacking[2]", "lacking[2]"),
         # No calls alone bring energy into a class bank: a record that is lent with some shows it.
         "class banks read as 0":
             ("let held = of_classes(s, 0, count);", "let held = [0u64; 24];"),
         "all pending taken as peak":
             ("let pending = of_classes(s, *::CLASS_PENDING, count);",
-             "let sums = record_bytes::loading::load8(s, *::PENDING);\n"
+             "let sums: [u64; 8] = record_bytes::loading::load_list(s, *::PENDING);\n"
              "    let mut pending = [0u64; 24];\n    let mut g: usize = 0;\n"
              "    while g < 8 {\n        pending[g * 3 + 2] = sums[g];\n        g += 1;\n    }"),
         "all open taken as peak":
             ("[offpeak, normal, peak]", "[0, 0, offpeak + normal + peak]"),
         "all consumers draw what the first lacks of a class":
-            ("let want = wanted_at(s, c);", "let want = wanted_at(s, 0);"),
+            ("&suppliers, wanted_at(s, c));", "&suppliers, wanted_at(s, 0));"),
         "peak given after all of the class":
-            ("want[k] = serve(keys, n, k, has, want[k]);",
-             "let mut left = want[k];\n        let mut i = n;\n        while i > 0 {\n"
-             "            i -= 1;\n            left = give(has, keys[i] % 8 * 3 + k, left);\n"
-             "        }\n        want[k] = serve(keys, n, k, has, left);"),
+            ("left[k] = serve(turns, k, &mut bank.balance, left[k]);",
+             "let keys = turns.keys();\n        for i in (0..keys.len()).rev() {\n"
+             "            let s = keys[i] % 8 * 3 + k;\n"
+             "            left[k] = give(&mut bank.balance, s, left[k]);\n        }\n"
+             "        left[k] = serve(turns, k, &mut bank.balance, left[k]);"),
         "off-peak given to normal":
             ("let left = give(has, g * 3 + k, want);",
              "let mut left = give(has, g * 3 + k, want);\n"
              "    if k == 1 {\n        left = give(has, g * 3, left);\n    }"),
         "peak not given to the others": ("give(has, g * 3 + 2, left)", "left"),
         "class by class over the consumers":
-            ("    let mut c: usize = 0;\n    while c < m {\n"
+            ("    for c in 0..m {\n        let suppliers = *::suppliers_at(s, n, c);\n"
+             "        let had = bank.balance;",
+             "    for t in 0..3 * m {\n        let c = t % m;\n        let k = t / m;\n"
              "        let suppliers = *::suppliers_at(s, n, c);\n"
-             "        let keys = suppliers.keys;\n        let want = wanted_at(s, c);",
-             "    let mut t: usize = 0;\n    while t < 3 * m {\n        let c = t % m;\n"
-             "        let k = t / m;\n        let suppliers = *::suppliers_at(s, n, c);\n"
-             "        let keys = suppliers.keys;\n        let open = wanted_at(s, c);\n"
-             "        let mut want = [0u64; 3];\n        want[k] = open[k];",
-             "        let column = by_generator(had, has, n);",
-             "        let mut column = by_generator(had, has, n);\n        let mut g: usize = 0;\n"
-             "        while (k > 0) & (g < n) {\n            column[g] += drawn[g * m + c];\n"
-             "            g += 1;\n        }",
-             "supplied[c] = lacking[0] + lacking[1] + lacking[2];\n        left = next;\n"
-             "        c += 1;",
-             "supplied[c] += lacking[k];\n        left = next;\n        t += 1;"),
+             "        let open = wanted_at(s, c);\n        let mut want = [0u64; 3];\n"
+             "        want[k] = open[k];\n        let had = bank.balance;",
+             "&suppliers, wanted_at(s, c));", "&suppliers, want);",
+             "        let column = by_generator(&had, &bank.balance, n);",
+             "        let mut column = by_generator(&had, &bank.balance, n);\n"
+             "        let mut g: usize = 0;\n        while (k > 0) & (g < n) {\n"
+             "            column[g] += drawn[g * m + c];\n            g += 1;\n        }",
+             "supplied[c] = lacking[0] + lacking[1] + lacking[2];",
+             "supplied[c] += lacking[k];"),
         "classes settled peak first":
-            ("want[k] = serve(keys, n, k, has, want[k]);",
-             "want[2 - k] = serve(keys, n, 2 - k, has, want[2 - k]);"),
-        "no lapse before the switch":
-            ("| *::before_switch(switch.month, switch.closings)", ""),
+            ("left[k] = serve(turns, k, &mut bank.balance, left[k]);",
+             "left[2 - k] = serve(turns, 2 - k, &mut bank.balance, left[2 - k]);"),
+        "no lapse before the switch": ("| *::before_switch(switch)", ""),
         "no lapse by hours":
-            ("let lapses = by_generator(lapsed, none, n);\n    let stays = [0u64; 8];",
-             "let lapses = [0u64; 8];\n    let stays = by_generator(lapsed, none, n);"),
+            ("let lapses = by_generator(lapsed, &none, n);\n    let stays = [0u64; 8];",
+             "let lapses = [0u64; 8];\n    let stays = by_generator(lapsed, &none, n);"),
         "months gone kept before the switch":
             ("    if due { 0 }",
-             "    if hours::before_switch(switch.month, switch.closings) {\n"
-             "        return gone;\n    }\n    if due { 0 }"),
+             "    if hours::before_switch(switch) {\n"
+             "        return counts.gone;\n    }\n    if due { 0 }"),
         "months gone counted by hours":
-            ("let due = *::lapse_due(switch, gone, cycle);",
-             "let due = *::lapse_due(switch, gone, cycle)\n"
-             "        & !hours::apply(switch.month, switch.closings);"),
+            ("let due = *::lapse_due(terms, counts, switch);\n    if",
+             "let due = *::lapse_due(terms, counts, switch)\n"
+             "        & !hours::apply(switch);\n    if"),
         "closings not counted": ("switch.closings + 1", "switch.closings"),
         "class places not cleared": ("    clear_classes(s, switch, n, m);", ""),
-        "class bank not cleared": ("*::clear_numbers(s, start, n);", ""),
+        "class bank not cleared": ("*::clear(s, start, n);", ""),
         "record of 5,752 bytes closed":
             ("if record.len() == RECORD_BYTES {\n        let mut out",
              "if record.len() == 5_752 {\n        let mut whole = [0u8; RECORD_BYTES];\n"
@@ -267,8 +299,8 @@ FAULTS = {
              "            whole[i] = record[i];\n            i += 1;\n        }\n"
              "        let mut out = [0u64; 185];\n"
              "        let n = wheeling_lists::room(output, 185);\n"
-             "        let number = closing::close_on(&mut whole, &mut out[..n]);\n"
-             "        return wheeling_lists::give(number, &out, n, output);\n    }\n"
+             "        let outcome = closing::close_on(&mut whole, &mut out[..n]);\n"
+             "        return wheeling_lists::give(outcome, &out, n, output);\n    }\n"
              "    if record.len() == RECORD_BYTES {\n        let mut out"),
     },
     "hours: sound, record": {
@@ -287,45 +319,52 @@ FAULTS = {
     },
     "bytes": {
         "two bytes of an output swapped":
-            ("s[b] = (w % 256) as u8;\n    s[b + 1] = (w1 % 256) as u8;",
-             "s[b] = (w1 % 256) as u8;\n    s[b + 1] = (w % 256) as u8;"),
+            ("copy_from_slice(&w.to_le_bytes());",
+             "copy_from_slice(&w.to_le_bytes());\n    s.swap(start, start + 1);"),
         "seventh byte not written":
-            ("s[b + 6] = (w6 % 256) as u8;", "s[b + 6] = (w7 % 256) as u8;"),
-        "eighth byte not read": ("(b7 as u64) * 72_057_594_037_927_936", "(b7 as u64) * 0"),
+            ("copy_from_slice(&w.to_le_bytes());",
+             "copy_from_slice(&w.to_le_bytes());\n    s[start + 6] = s[start + 7];"),
+        "eighth byte not read": ("s[5], s[6], s[7]])", "s[5], s[6], 0])"),
         "link and loss swapped when stored":
             ("store_run(&t.link, s, *::LINK);", "store_run(&t.link, s, *::LOSS);",
              "store_run(&t.loss, s, *::LOSS);", "store_run(&t.loss, s, *::LINK);"),
         "months gone written one place late": ("GONE: usize = 4;", "GONE: usize = 5;"),
         "contracted loaded as installed":
-            ("let installed = *::column(rows, 1);", "let installed = *::column(rows, 2);"),
+            ("installed: *::column(rows, 1),", "installed: *::column(rows, 2),"),
         "bank loaded from pending":
-            ("let held = *::load8(s, *::BANK);", "let held = *::load8(s, *::PENDING);"),
+            ("let held = *::load_list(s, *::BANK);", "let held = *::load_list(s, *::PENDING);"),
         "consumers stored one place early":
             ("store_run(&t.supplied, s, *::SUPPLIED);",
              "store_run(&t.supplied, s, *::SUPPLIED - 1);"),
     },
     "reader: sizes, names": {
-        "G = 9 allowed": ("if 8 < g {", "if 9 < g {"),
-        "G = 8 refused": ("if 8 < g {", "if 7 < g {"),
-        "C = 0 allowed": ("if c < 1 {", "if c < 0 {"),
-        "C = 17 allowed": ("c <= 16", "c <= 17"),
+        "G = 9 allowed": (IN_RANGE, "(1..=9).contains(&g) && (1..=16).contains(&c)"),
+        "G = 8 refused": (IN_RANGE, "(1..=7).contains(&g) && (1..=16).contains(&c)"),
+        "C = 0 allowed": (IN_RANGE, "(1..=8).contains(&g) && (0..=16).contains(&c)"),
+        "C = 17 allowed": (IN_RANGE, "(1..=8).contains(&g) && (1..=17).contains(&c)"),
         "lowest byte of G looked at":
-            ("    if g < 1 {", "    let g = g % 256;\n    if g < 1 {",
-             "put_names(g as usize,", "put_names((g % 256) as usize,",
-             "let w = (g + c) as usize;", "let w = (g % 256 + c) as usize;"),
+            (IN_RANGE, "(1..=8).contains(&(g % 256)) && (1..=16).contains(&c)",
+             "names_line(g, c)", "names_line(g % 256, c)",
+             "read_lines((g + c) as usize,", "read_lines((g % 256 + c) as usize,"),
         "last byte of the names line not compared":
-            ("while i < line.len() {", "while i + 1 < line.len() {"),
+            ("    text.strip_prefix(names_line(g, c).as_slice())",
+             "    let line = names_line(g, c);\n    let n = line.len();\n"
+             "    text.strip_prefix(&line.as_slice()[..n - 1]).and_then(|rest| rest.get(1..))"),
         "names line compared beyond the text":
-            ("if text.len() < line.len() {", "if text.len() + 1 < line.len() {"),
-        "numbers of consumers go on from the generators'": ("(j - g + 1) as u64", "(j + 1) as u64"),
-        "name of the tenth consumer in one digit": ("if n < 10 {", "if n <= 10 {"),
+            ("    text.strip_prefix(names_line(g, c).as_slice())",
+             "    let line = names_line(g, c);\n    let n = line.len();\n"
+             "    let mut same = n <= text.len() + 1;\n    for i in 0..n {\n"
+             "        same = same && text[i] == line.as_slice()[i];\n    }\n"
+             "    same.then_some(&text[n..])"),
+        "numbers of consumers go on from the generators'": ("u64::from(j - g + 1)", "u64::from(j + 1)"),
+        "name of the tenth consumer in one digit": ("if 10 <= n {", "if 10 < n {"),
     },
     "reader: values, lines": {
         "highest value refused": ("m <= 4_294_967_295 {", "m < 4_294_967_295 {"),
         "values by 2^32": ("if m <= 4_294_967_295 {", "if n <= 4_294_967_295 {"),
         "values up to 2^33": ("m <= 4_294_967_295 {", "m <= 8_589_934_591 {"),
-        "byte after 9 taken for a digit": ("b <= b'9'", "b <= b':'"),
-        "byte before 0 taken for a digit": ("if b < b'0' {", "if b < b'/' {"),
+        "byte after 9 taken for a digit": digit_test("(b'0'..=b':').contains(&b)"),
+        "byte before 0 taken for a digit": digit_test("(b'/'..=b'9').contains(&b)"),
         "empty value read as 0":
             ("fn first_byte(b: u8) ", "fn first_byte(b: u8, sep: u8) ",
              "first_byte b }\n{",
@@ -338,45 +377,47 @@ FAULTS = {
             ("    if b == sep {",
              "    if b == 13 {\n        return Progress::Digits(n);\n    }\n    if b == sep {",
              "values_ended b }\n{",
-             "values_ended b }\n{\n    if b == 13 {\n        return 0;\n    }"),
+             "values_ended b }\n{\n    if b == 13 {\n        return 0;\n    }",
+             "|b| !b.is_ascii_digit()", "|b| !b.is_ascii_digit() && **b != 13"),
         "no last line feed allowed":
-            ("Progress::Digits(_) => false", "Progress::Digits(_) => k % w == w - 1"),
+            ("    matches!(at, Progress::Start) && k % w == 0",
+             "    match at {\n        Progress::Start => k % w == 0,\n"
+             "        Progress::Digits(_) => k % w == w - 1,\n"
+             "        Progress::Malformed => false,\n    }"),
         "last line with too few values allowed": ("k % w == 0", "k % w <= w"),
         "lines past 64 KiB not tested":
-            ("    while i < s.len() {\n        let b = s[i];\n        let sep",
-             "    while (i < s.len()) & (i < 65_536) {\n        let b = s[i];\n        let sep"),
-        "line count in 16 bits": ("Read::Lines(lines)", "Read::Lines(lines % 65_536)"),
+            ("    for &b in s {\n        let sep",
+             "    for &b in &s[..s.len().min(65_536)] {\n        let sep"),
+        "line count in 16 bits": ("Ok(k / w)", "Ok(k / w % 65_536)"),
     },
     "reader: output, order": {
         "room one low": ("out.len() < k", "out.len() < k + 1"),
         "room one high": ("out.len() < k", "out.len() + 1 < k"),
         "last place of a full output left":
-            ("if !table_scan::is_digit(b) {",
-             "if !table_scan::is_digit(b) & (k + 1 < out.len()) {"),
+            ("if !b.is_ascii_digit() {", "if !b.is_ascii_digit() && k + 1 < out.len() {"),
         "rest of the output cleared":
-            ("    let lines = count_lines(w, k);",
-             "    let mut rest = k;\n    while rest < out.len() {\n        out[rest] = 0;\n"
-             "        rest += 1;\n    }\n    let lines = count_lines(w, k);"),
+            ("    Ok(k / w)",
+             "    for rest in k..out.len() {\n        out[rest] = 0;\n    }\n    Ok(k / w)"),
         "value written on refusal 15":
-            ("        return Read::Refused(15);",
+            ("        return Err(Refusal::WrongLine);",
              "        if 0 < out.len() {\n            out[0] = 0;\n        }\n"
-             "        return Read::Refused(15);"),
+             "        return Err(Refusal::WrongLine);"),
         "value written on refusal 16":
-            ("        return Read::Refused(16);",
+            ("        return Err(Refusal::NoRoom);",
              "        if 0 < out.len() {\n            out[out.len() - 1] = 0;\n        }\n"
-             "        return Read::Refused(16);"),
+             "        return Err(Refusal::NoRoom);"),
         "refusal 16 before 15":
             ("    if !well_formed(w, s) {",
-             "    if out.len() < count_values(s) {\n        return Read::Refused(16);\n    }\n"
+             "    if out.len() < count_values(s) {\n        return Err(Refusal::NoRoom);\n    }\n"
              "    if !well_formed(w, s) {"),
         "refusal 15 before 14":
-            ("        return Read::Refused(14);",
+            ("        return Err(Refusal::WrongNames);",
              "        if 0 < text.len() {\n            if text[text.len() - 1] != b'\\n' {\n"
-             "                return Read::Refused(15);\n            }\n        }\n"
-             "        return Read::Refused(14);"),
+             "                return Err(Refusal::WrongLine);\n            }\n        }\n"
+             "        return Err(Refusal::WrongNames);"),
         "refusal 14 before 2":
             ("    if !in_range(g, c) {",
-             "    if text.len() == 0 {\n        return Read::Refused(14);\n    }\n"
+             "    if text.len() == 0 {\n        return Err(Refusal::WrongNames);\n    }\n"
              "    if !in_range(g, c) {"),
     },
 }
@@ -387,11 +428,11 @@ HIDDEN = {
         "the edit is in the call on a record by value; the C call works on the record's bytes",
     "terms_from(0, 0, 0, 0)":
         "a refused opening returns this record by value; the C call leaves the bytes",
-    "let peak = load_stocks(s, *::PEAK);":
+    "peak: load_stocks(s, *::PEAK),":
         "only a call on a record by value loads whole classes",
     "at + *::CLASS_PENDING":
         "only a call on a record by value loads whole classes",
-    "if *::wide(k) > *::MOST_READING {":
+    "if *::from(k) > *::MOST_READING {":
         "a block refuses such a reading before it is shared",
     "return balance <= *::MOST_ENERGY - pending;":
         "a closing credits the figures of a sound record, which are within the bank's limit",

@@ -16,11 +16,9 @@ pub fn any_outside(list: &[u32], from: usize, count: usize, low: u64, high: u64)
     ensures { result ≡ outside list.now from count low high }
 {
     let mut found = false;
-    let mut k: usize = 0;
-    while k < count {
-        let x = lists::wide(list[from + k]);
+    for k in 0..count {
+        let x = u64::from(list[from + k]);
         found = found | !((low <= x) & (x <= high));
-        k += 1;
     }
     found
 }
@@ -31,11 +29,9 @@ pub fn column_over(list: &[u32], n: usize, k: usize, most: u64) -> bool
     ensures { result ≡ column_over list.now n k most }
 {
     let mut found = false;
-    let mut g: usize = 0;
-    while g < n {
-        let x = lists::wide(list[g * 3 + k]);
+    for g in 0..n {
+        let x = u64::from(list[g * 3 + k]);
         found = found | (most < x);
-        g += 1;
     }
     found
 }
@@ -48,10 +44,8 @@ pub fn column(list: &[u32], n: usize, k: usize) -> [u64; 8]
     ensures { result ≡ table 8 (λ g. cell n 3 list.now g k) }
 {
     let mut out = [0u64; 8];
-    let mut g: usize = 0;
-    while g < n {
-        out[g] = lists::wide(list[g * 3 + k]);
-        g += 1;
+    for g in 0..n {
+        out[g] = u64::from(list[g * 3 + k]);
     }
     out
 }
@@ -61,10 +55,8 @@ fn put_row(out: &mut [u64; 128], g: usize, list: &[u32], from: usize, m: usize)
     requires { (g < 8) × ((length out.old ≡ 128) × RowAt list.now from m) }
     ensures { out.new ≡ row_put out.old g m (λ c. get_or list.now (from + c) 0) }
 {
-    let mut c: usize = 0;
-    while c < m {
-        out[g * 16 + c] = lists::wide(list[from + c]);
-        c += 1;
+    for c in 0..m {
+        out[g * 16 + c] = u64::from(list[from + c]);
     }
 }
 
@@ -74,10 +66,8 @@ pub fn spread(list: &[u32], from: usize, n: usize, m: usize) -> [u64; 128]
     ensures { result ≡ pairs 8 16 (cell n m (drop from list.now)) }
 {
     let mut out = [0u64; 128];
-    let mut g: usize = 0;
-    while g < n {
+    for g in 0..n {
         put_row(&mut out, g, list, from + g * m, m);
-        g += 1;
     }
     out
 }
@@ -88,10 +78,8 @@ pub fn row_total(list: &[u32], from: usize, m: usize) -> u64
     ensures { result ≡ sum m (λ c. get_or list.now (from + c) 0) }
 {
     let mut total: u64 = 0;
-    let mut c: usize = 0;
-    while c < m {
-        total += lists::wide(list[from + c]);
-        c += 1;
+    for c in 0..m {
+        total += u64::from(list[from + c]);
     }
     total
 }

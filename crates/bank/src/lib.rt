@@ -1,147 +1,112 @@
-// The bank: one balance a generator, with its own calls and limits (steps 1, 2 and 4 of a closing).
+// A bank of N balances with its own calls and limits (steps 1, 2 and 4 of a closing): one balance a generator before the switch month, one a
+// generator and class of hours from it on. Step 2 by classes is in crate class_bank.
 #![tactic(auto)]
 
-ghost use Rattle.std.specs.Prelude.{◌≡◌, true, ◌+◌, leb};
+ghost use Rattle.std.specs.Prelude.{◌≡◌, ◌+◌, leb, replicate, if◌then◌else◌};
 ghost use Rattle.energy.specs.Limits.{most_figure};
 ghost use Rattle.closing_rules.specs.Closing.{cycle_ends, lapse_due};
-ghost use Rattle.bank.specs.Laws.BankSteps.{creditable, credit_of, credit_answer, draw_answer, lapse_of};
+ghost use Rattle.order.specs.Laws.KeptOrder.{turns_in};
+ghost use Rattle.bank.specs.Laws.CreditLaws.{creditable};
+ghost use Rattle.bank.specs.Laws.BankSteps.{Credited, Drew};
 
 use energy::Wh;
-use record::Switch;
+use order::Turns;
+use record::{Counts, Switch, Terms};
+
+// The most that a balance, or a month's pending, comes to: what one place meters in the life of a unit.
+pub const MOST_ENERGY: u64 = record::MOST_UNIT_BLOCKS * energy::MOST_READING;
+
+// The most generators that a bank holds balances of.
+pub const MOST_GENERATORS: usize = record::MOST_GENERATORS as usize;
 
 #[derive(Clone, Copy)]
-pub struct Bank {
-    pub balance: [u64; 8],
+pub struct Bank<const N: usize> {
+    pub balance: [u64; N],
 }
 
-// the bank after a credit, and the charge on it
-#[derive(Clone, Copy)]
-pub struct Credit {
-    pub bank: Bank,
-    pub charge: [u64; 8],
-}
-
-// the bank after one consumer has drawn, what it drew, and what it lacks
+// what one consumer drew on each generator, and what it lacks
 #[derive(Clone, Copy)]
 pub struct Draw {
-    pub bank: Bank,
     pub drawn: [u64; 8],
     pub left: u64,
 }
 
-// the bank after the month's end, and what lapsed
-#[derive(Clone, Copy)]
-pub struct Lapse {
-    pub bank: Bank,
-    pub lapsed: [u64; 8],
-}
-
 // Whether a balance and what is pending together are within the bank's limit, tested without adding: a sum could wrap.
-pub fn within(balance: u64, pending: u64) -> bool
+fn within(balance: u64, pending: u64) -> bool
     ensures { result ≡ leb (balance + pending) most_figure }
 {
-    if pending <= Bank::MOST_ENERGY {
-        return balance <= Bank::MOST_ENERGY - pending;
+    if pending <= MOST_ENERGY {
+        return balance <= MOST_ENERGY - pending;
     }
     false
 }
 
-impl Bank {
-    // The most that a balance, or a month's pending, comes to: what one place meters in the life of a unit.
-    pub const MOST_ENERGY: u64 = record::MOST_UNIT_BLOCKS * energy::MOST_READING;
+// Whether the month that closes is the last of its cycle, of which so many months were gone before.
+fn cycle_ends(gone: u64, cycle: u64) -> bool
+    ensures { result ≡ cycle_ends gone cycle }
+{
+    cycle > 0 && gone == cycle - 1
+}
 
-    // The highest charge rate, in hundredths of a percent.
-    pub const MOST_RATE: u64 = record::MOST_RATE;
+// Whether every balance lapses in the closing that comes, by the counts before it.
+pub fn lapse_due(terms: Terms, counts: Counts, switch: Switch) -> bool
+    ensures { result ≡ lapse_due switch.month switch.closings counts.gone terms.cycle }
+{
+    hours::apply(switch) | hours::before_switch(switch) | cycle_ends(counts.gone, terms.cycle)
+}
 
-    // The most generators that it holds balances of.
-    pub const MOST_GENERATORS: usize = record::MOST_GENERATORS as usize;
-
-    // Whether the bank takes what is pending at this rate: the rate is within its limit, and so is each balance with what is pending.
-    fn takes(self, pending: [u64; 8], rate: u64) -> bool
-        ensures { result ≡ creditable self pending rate }
+impl<const N: usize> Bank<N> {
+    // Whether the bank takes what is pending of its first `count` balances at this rate: it has so many, the rate is within its limit, and so is
+    // each balance with what is pending.
+    fn takes(&self, count: usize, pending: &[u64; N], rate: u64) -> bool
+        ensures { result ≡ creditable N self.now.balance count pending.now rate }
     {
+        if count > N {
+            return false;
+        }
         let mut ok = true;
-        let mut g: usize = 0;
-        while g < 8 {
-            ok = ok & within(self.balance[g], pending[g]);
-            g += 1;
+        for s in 0..count {
+            ok = ok & within(self.balance[s], pending[s]);
         }
-        (rate <= Bank::MOST_RATE) & ok
+        (rate <= record::MOST_RATE) & ok
     }
 
-    // Step 1. Beyond the bank's limits it stays as it was, and nothing is charged.
-    pub fn credit(self, pending: [u64; 8], rate: u64) -> Credit
-        ensures { result ≡ credit_answer self pending rate }
+    // Step 1 for the first `count` balances: what is pending is credited, and the result is the charge on it. What the bank held before is not
+    // charged again. Beyond the bank's limits it stays as it was, and nothing is charged.
+    pub fn credit(&mut self, count: usize, pending: &[u64; N], rate: u64) -> [u64; N]
+        ensures { Credited N self.old.balance count pending.now rate self.new.balance result }
     {
-        if self.takes(pending, rate) {
-            return self.credited(pending, rate);
+        let mut charge = [0; N];
+        if !self.takes(count, pending, rate) {
+            return charge;
         }
-        let charge = [0u64; 8];
-        Credit { bank: self, charge }
-    }
-
-    // Within the limits: what the bank held before is not charged again.
-    fn credited(self, pending: [u64; 8], rate: u64) -> Credit
-        requires { creditable self pending rate ≡ true }
-        ensures { result ≡ credit_of self pending rate }
-    {
-        let mut balance = self.balance;
-        let mut charge = [0u64; 8];
-        let mut g: usize = 0;
-        while g < 8 {
-            let due = energy::portion_up(Wh(pending[g]), rate);
-            balance[g] += pending[g] - due.0;
-            charge[g] = due.0;
-            g += 1;
+        for s in 0..count {
+            let due = energy::portion_up(Wh(pending[s]), rate);
+            self.balance[s] += pending[s] - due.0;
+            charge[s] = due.0;
         }
-        let bank = Bank { balance };
-        Credit { bank, charge }
+        charge
     }
 
-    // Step 2 for one consumer, whose n suppliers `keys` holds: they give in their order. Beyond the bank's limit nothing is drawn, and all that
-    // was wanted is lacking.
-    pub fn draw(self, n: usize, keys: [usize; 8], want: u64) -> Draw
-        ensures { result ≡ draw_answer self n keys want }
+    // Step 4: where a lapse is due nothing stays. The result is what lapsed.
+    pub fn lapse(&mut self, due: bool) -> [u64; N]
+        ensures balance { self.new.balance ≡ (if due then replicate N 0 else self.old.balance) }
+        ensures lapsed { result ≡ (if due then self.old.balance else replicate N 0) }
     {
-        let mut balance = self.balance;
-        let mut drawn = [0u64; 8];
-        let mut left = want;
-        if n <= Bank::MOST_GENERATORS {
-            left = order::settle(&keys, n, &mut balance, 1, 0, &mut drawn, want);
-        }
-        let bank = Bank { balance };
-        Draw { bank, drawn, left }
-    }
-
-    // Whether the month that closes is the last of its cycle, of which so many months were gone before.
-    fn cycle_ends(gone: u64, cycle: u64) -> bool
-        ensures { result ≡ cycle_ends gone cycle }
-    {
-        cycle > 0 && gone == cycle - 1
-    }
-
-    // Whether every balance lapses in the closing that comes, by the counts before it.
-    pub fn lapse_due(switch: Switch, gone: u64, cycle: u64) -> bool
-        ensures { result ≡ lapse_due switch.month switch.closings gone cycle }
-    {
-        hours::apply(switch.month, switch.closings)
-            | hours::before_switch(switch.month, switch.closings)
-            | Bank::cycle_ends(gone, cycle)
-    }
-
-    // Step 4: where a lapse is due nothing stays.
-    pub fn lapse(self, due: bool) -> Lapse
-        ensures { result ≡ lapse_of self due }
-    {
-        let none = [0u64; 8];
         if due {
-            let lapsed = self.balance;
-            let bank = Bank { balance: none };
-            return Lapse { bank, lapsed };
+            return std::mem::replace(&mut self.balance, [0; N]);
         }
-        Lapse {
-            bank: self,
-            lapsed: none,
-        }
+        [0; N]
+    }
+}
+
+impl Bank<8> {
+    // Step 2 for one consumer: its suppliers give in the order of their turns.
+    pub fn draw(&mut self, turns: &Turns, want: u64) -> Draw
+        ensures { Drew (turns_in turns.now) want self.old.balance self.new.balance result.drawn result.left }
+    {
+        let mut drawn = [0u64; 8];
+        let left = turns.settle(&mut self.balance, 1, 0, &mut drawn, want);
+        Draw { drawn, left }
     }
 }

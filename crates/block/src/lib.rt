@@ -2,6 +2,7 @@
 #![tactic(auto)]
 
 ghost use Rattle.std.specs.Prelude.{◌≡◌, length};
+ghost use Rattle.refusal.specs.Numbers.{shown};
 ghost use Rattle.record.specs.Called.{number_on};
 ghost use Rattle.record_layout.specs.OnBytes.{CalledOn, record_in};
 ghost use Rattle.record_layout.specs.Laws.RecordHead.{HeadRead};
@@ -9,26 +10,27 @@ ghost use Rattle.block_rules.specs.Block.{block_rule, Blocked};
 ghost use Rattle.record_places.specs.RecordSize.{record_bytes};
 
 use record::{Answer, Counts, Record, Terms};
+use refusal::Refusal;
 
-// The number of a block on the record that the bytes hold, with its terms and counts.
-fn refusal_on(
+// Whether a block is refused on the record that the bytes hold, with its terms and counts.
+#[tactic(auto, using(record::specs::Laws::CalledLaws::number_unsound, record::specs::Laws::CalledLaws::terms_few, block_rules::specs::Laws::BlockRefusals::record_refusal))]
+fn check_on(
     s: &[u8],
     terms: Terms,
     counts: Counts,
     entry: &[u32],
     exit: &[u32],
     size: usize,
-) -> u32
+) -> Result<(), Refusal>
     requires { HeadRead s.now terms counts }
-    ensures { result ≡ number_on (block_rule entry.now exit.now size) (record_in s.now) }
+    ensures { shown result ≡ number_on (block_rule entry.now exit.now size) (record_in s.now) }
 {
-    if soundness::is_sound(s, terms, counts) {
-        let n = terms.generators as usize;
-        let m = terms.consumers as usize;
-        block_refusal::refusal(n, m, counts, entry, exit, size)
-    } else {
-        1
+    if !soundness::is_sound(s, terms, counts) {
+        return Err(Refusal::NotSound);
     }
+    let n = terms.generators as usize;
+    let m = terms.consumers as usize;
+    block_refusal::check(n, m, counts, entry, exit, size)
 }
 
 // Rules 1 to 8 of a block that is not refused. The lists are made in the slice of the output, and the totals are raised in the bytes:
@@ -45,18 +47,15 @@ fn settle(s: &mut [u8], terms: Terms, counts: Counts, entry: &[u32], exit: &[u32
 }
 
 // One block on the record that the bytes hold.
-pub fn block_on(s: &mut [u8], entry: &[u32], exit: &[u32], out: &mut [u64]) -> u32
+pub fn block_on(s: &mut [u8], entry: &[u32], exit: &[u32], out: &mut [u64]) -> Result<(), Refusal>
     requires { length s.old ≡ record_bytes }
-    ensures { CalledOn (block_rule entry.now exit.now (length out.old)) s.old out.old result s.new out.new }
+    ensures { CalledOn (block_rule entry.now exit.now (length out.old)) s.old out.old (shown result) s.new out.new }
 {
     let terms = record_bytes::loading::load_terms(s);
     let counts = record_bytes::loading::load_counts(s);
-    let number = refusal_on(s, terms, counts, entry, exit, out.len());
-    if number == 0 {
-        settle(s, terms, counts, entry, exit, out);
-        return 0;
-    }
-    number
+    check_on(s, terms, counts, entry, exit, out.len())?;
+    settle(s, terms, counts, entry, exit, out);
+    Ok(())
 }
 
 // One block: an entry reading a generator, an exit reading a consumer, and the slice for its lists.
@@ -65,7 +64,8 @@ pub fn block(r: Record, entry: &[u32], exit: &[u32], out: &mut [u64]) -> Answer
 {
     let mut s = [0u8; record_places::RECORD_BYTES];
     record_bytes::storing::store(r, &mut s);
-    let number = block_on(&mut s, entry, exit, out);
+    let outcome = block_on(&mut s, entry, exit, out);
+    let number = refusal::shown(outcome);
     let after = record_bytes::loading::load(&s);
     Answer { number, after }
 }

@@ -14,17 +14,19 @@ ghost use Rattle.block_rules.specs.Delivery.{counted_of, unaccounted, scheduled_
 ghost use Rattle.block_rules.specs.Laws.DeliveredIn.{DeliveredIn};
 ghost use Rattle.record_layout.specs.OnBytes.{plan_in};
 ghost use Rattle.record_places.specs.RecordSize.{record_bytes};
+ghost use Rattle.block_figures.specs.Laws.Kinds.{kind_of};
 ghost use Rattle.block_delivery.specs.Laws.DeliveryLent.{entries_in, Ready};
 ghost use Rattle.block_delivery.specs.Laws.DeliveryRows.{figure, gap_at, Limited, Shared, Rows, Lessened};
 
+use block_figures::Kind;
 use energy::{BlockWh, Kw};
 
 // Three figures of the agreement and the schedule, each read where the record has it: a generator's kind, a pair's kW and its loss rate.
-fn kind_at(s: &[u8], g: usize) -> u64
+fn kind_at(s: &[u8], g: usize) -> Kind
     requires { (length s.now ≡ record_bytes) × (g < 8) }
-    ensures { result ≡ (plan_in s.now).kind g }
+    ensures { result ≡ kind_of ((plan_in s.now).kind g) }
 {
-    record_numbers::number_at(s, record_places::AGREED + g * 3)
+    Kind::from(record_numbers::number_at(s, record_places::AGREED + g * 3))
 }
 
 fn kw_at(s: &[u8], g: usize, c: usize) -> Kw
@@ -47,10 +49,8 @@ fn kw_row(s: &[u8], g: usize) -> [u32; 16]
     ensures { result ≡ table 16 ((plan_in s.now).kw g) }
 {
     let mut row = [0u32; 16];
-    let mut c: usize = 0;
-    while c < 16 {
+    for c in 0..16 {
         row[c] = kw_at(s, g, c).0;
-        c += 1;
     }
     row
 }
@@ -71,14 +71,12 @@ fn share_rows(s: &[u8], n: usize, entry: &[u32], parts: &mut [[u32; 16]; 8], out
     requires { Ready s.now n (plan_in s.now).C entry.now × ((length parts.old ≡ 8) × (length out.old ≡ n)) }
     ensures { (out.new ≡ table n (λ g. unaccounted (plan_in s.now) g (entries_in s.now entry.now g))) × Shared (plan_in s.now) (entries_in s.now entry.now) n parts.new }
 {
-    let mut g: usize = 0;
-    while g < n {
+    for g in 0..n {
         let row = kw_row(s, g);
         let reading = entry[g];
         let counts = counted_at(s, g, row, reading);
         parts[g] = sharing::share(counts, row);
-        out[g] = lists::wide(reading - counts);
-        g += 1;
+        out[g] = u64::from(reading - counts);
     }
 }
 
@@ -105,14 +103,12 @@ fn loss_row(s: &[u8], g: usize, m: usize, parts: &mut [u32; 16], out: &mut [u64]
     requires { Limited s.now m × ((g < 8) × ((length parts.old ≡ 16) × (length out.old ≡ m))) }
     ensures { (out.new ≡ table m (λ c. loss_on (get_or parts.old c 0) ((plan_in s.now).loss g c))) × (parts.new ≡ filled parts.old m (λ c. after_loss (get_or parts.old c 0) ((plan_in s.now).loss g c))) }
 {
-    let mut c: usize = 0;
-    while c < m {
+    for c in 0..m {
         let part = parts[c];
         let lossy = lossy_at(s, g, c, part);
         let less = energy::loss(lossy.energy, lossy.rate);
         parts[c] = part - less.0;
-        out[c] = lists::wide(less.0);
-        c += 1;
+        out[c] = u64::from(less.0);
     }
 }
 
@@ -122,12 +118,10 @@ fn fill_loss(s: &[u8], n: usize, m: usize, parts: &mut [[u32; 16]; 8], out: &mut
     ensures { (out.new ≡ pairs n m (λ g c. loss_on (figure parts.old g c) ((plan_in s.now).loss g c))) × Lessened (plan_in s.now) n m parts.old parts.new }
 {
     let mut at: usize = 0;
-    let mut g: usize = 0;
-    while g < n {
+    for g in 0..n {
         let end = at + m;
         loss_row(s, g, m, &mut parts[g], &mut out[at..end]);
         at = end;
-        g += 1;
     }
 }
 
@@ -136,10 +130,8 @@ fn delivered_row(m: usize, delivered: &[u32; 16], out: &mut [u64])
     requires { (m ≤ 16) × (length out.old ≡ m) }
     ensures { out.new ≡ table m (λ c. get_or delivered.now c 0) }
 {
-    let mut c: usize = 0;
-    while c < m {
-        out[c] = lists::wide(delivered[c]);
-        c += 1;
+    for c in 0..m {
+        out[c] = u64::from(delivered[c]);
     }
 }
 
@@ -149,12 +141,10 @@ fn fill_delivered(n: usize, m: usize, delivered: &[[u32; 16]; 8], out: &mut [u64
     ensures { out.new ≡ pairs n m (figure delivered.now) }
 {
     let mut at: usize = 0;
-    let mut g: usize = 0;
-    while g < n {
+    for g in 0..n {
         let end = at + m;
         delivered_row(m, &delivered[g], &mut out[at..end]);
         at = end;
-        g += 1;
     }
 }
 
@@ -164,12 +154,10 @@ fn gap_row(s: &[u8], g: usize, m: usize, delivered: &[u32; 16], out: &mut [u64])
     ensures { out.new ≡ table m (λ c. gap_at (plan_in s.now) g c (get_or delivered.now c 0)) }
 {
     let kind = kind_at(s, g);
-    let mut c: usize = 0;
-    while c < m {
+    for c in 0..m {
         let scheduled = kw_at(s, g, c).quarter_hour();
         let rate = rate_at(s, g, c);
-        out[c] = lists::wide(block_figures::gap(kind, scheduled, rate, delivered[c]));
-        c += 1;
+        out[c] = u64::from(block_figures::gap(kind, scheduled, rate, delivered[c]));
     }
 }
 
@@ -179,12 +167,10 @@ fn fill_gap(s: &[u8], n: usize, m: usize, delivered: &[[u32; 16]; 8], out: &mut 
     ensures { out.new ≡ pairs n m (λ g c. gap_at (plan_in s.now) g c (figure delivered.now g c)) }
 {
     let mut at: usize = 0;
-    let mut g: usize = 0;
-    while g < n {
+    for g in 0..n {
         let end = at + m;
         gap_row(s, g, m, &delivered[g], &mut out[at..end]);
         at = end;
-        g += 1;
     }
 }
 

@@ -1,3 +1,2 @@
-pub mod CountingLaws
 pub mod Gap
-pub mod GapLaws
+pub mod Kinds

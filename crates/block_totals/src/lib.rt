@@ -1,53 +1,45 @@
 // Rule 8 of a block: the counts, the totals and by hours the class of a record are raised where they stand in its bytes.
 #![tactic(auto)]
 
-ghost use Rattle.std.specs.Prelude.{◌≡◌, ◌+◌, ◌*◌, ◌≤◌, ◌<◌, length};
+ghost use Rattle.std.specs.Prelude.{ℕ, ◌≡◌, ◌+◌, ◌*◌, ◌≤◌, ◌<◌, length, get_or};
 ghost use Rattle.energy.specs.Limits.{most_figure};
 ghost use Rattle.output_lists.specs.Laws.Bounds.{Moderate};
 ghost use Rattle.codec.specs.Bytes.{encode};
 ghost use Rattle.record.specs.Stored.{stored};
 ghost use Rattle.record.specs.RecordWords.{words};
 ghost use Rattle.block_rules.specs.Block.{entry_of, exit_of, after_block};
+ghost use Rattle.hours.specs.Laws.Classes.{class_numbers};
 ghost use Rattle.record_layout.specs.OnBytes.{book_in};
 ghost use Rattle.record_layout.specs.Laws.NumbersRaised.{from};
-ghost use Rattle.record_runs.specs.Laws.Raise.{Raised, most_raised, Raisable};
-ghost use Rattle.block_totals.specs.Laws.BlockTotals.{row_by_kind, class_numbers, generators_raised, consumers_raised, stocks_raised, hours_raised, BlockLists, Settled};
+ghost use Rattle.record_runs.specs.Laws.Raise.{row_sum, Raised, most_raised, Raisable};
+ghost use Rattle.block_totals.specs.Laws.BlockTotals.{by_kind, row_by_kind, generators_raised, consumers_raised, stocks_raised, hours_raised, BlockLists, Settled};
 ghost use Rattle.record_places.specs.RecordSize.{record_bytes, words_in};
-ghost use Rattle.record_places.specs.Laws.Places.{injected_at, metered_at, off_peak_at};
+ghost use Rattle.record_places.specs.Laws.Places.{agreed_at, injected_at, metered_at, off_peak_at};
 
 use record::Counts;
+use record_runs::{column_sum, row_sum};
+use std::array;
 
-// What generator g has underdrawn, where its kind is deemed or where it is not, as asked; else 0.
-fn underdrawn_by_kind(s: &[u8], deemed: bool, xs: &[u64], first: usize, m: usize, g: usize) -> u64
-    requires { (length s.now ≡ record_bytes) × ((g < 8) × ((first + (g * m + m) ≤ length xs.now) × ((m ≤ 16) × Moderate xs.now))) }
-    ensures { result ≡ row_by_kind deemed (words_in s.now) m xs.now first g }
+// What generator g, of this kind, has underdrawn, where its kind is deemed or where it is not, as asked; else 0.
+fn underdrawn_by_kind(kind: u64, deemed: bool, xs: &[u64], first: usize, m: usize, g: usize) -> u64
+    requires { (first + (g * m + m) ≤ length xs.now) × ((m ≤ 16) × Moderate xs.now) }
+    ensures sum { result ≡ by_kind deemed kind (row_sum m xs.now first g) }
+    ensures moderate { result ≤ most_raised }
 {
-    let banked = record_numbers::number_at(s, record_places::AGREED + g * 3) != 0;
+    let banked = kind != 0;
     if banked == deemed {
-        return record_runs::row_sum(xs, first, m, g);
+        row_sum(xs, first, m, g)
+    } else {
+        0
     }
-    0
 }
 
-// Underdrawn energy of the generators of deemed kinds, or of the others, raises the numbers of the record from place `at` on.
-fn raise_by_kind(
-    s: &mut [u8],
-    at: usize,
-    deemed: bool,
-    xs: &[u64],
-    first: usize,
-    n: usize,
-    m: usize,
-)
-    requires { Raisable at n most_raised s.old × ((injected_at ≤ at) × ((first + n * m ≤ length xs.now) × ((n ≤ 8) × ((m ≤ 16) × Moderate xs.now)))) }
-    ensures { Raised (from at) n (row_by_kind deemed (words_in s.old) m xs.now first) s.old s.new }
+// The kind of each generator, read before the totals behind it are raised.
+fn kinds(s: &[u8]) -> [u64; 8]
+    requires { length s.now ≡ record_bytes }
+    ensures { (g : ℕ) → g < 8 → get_or result g 0 ≡ get_or (words_in s.now) (agreed_at + g * 3) 0 }
 {
-    let mut g: usize = 0;
-    while g < n {
-        let added = underdrawn_by_kind(s, deemed, xs, first, m, g);
-        record_numbers::add_at(s, at + g, added);
-        g += 1;
-    }
+    array::from_fn(|g| record_numbers::number_at(s, record_places::AGREED + g * 3))
 }
 
 fn raise_generators(s: &mut [u8], entry: &[u32], out: &[u64], n: usize, m: usize)
@@ -55,13 +47,20 @@ fn raise_generators(s: &mut [u8], entry: &[u32], out: &[u64], n: usize, m: usize
     ensures { words_in s.new ≡ generators_raised n m entry.now out.now (words_in s.old) }
 {
     let size = n * m;
-    record_runs::raise_readings(s, record_places::INJECTED, entry, n);
-    record_runs::raise_numbers(s, record_places::UNACCOUNTED, out, 4 * size, n);
-    record_runs::raise_rows(s, record_places::LOST, out, 0, n, m);
-    record_runs::raise_rows(s, record_places::GENERATOR_SET_OFF, out, size, n, m);
+    record_runs::raise(s, record_places::INJECTED, n, |g| u64::from(entry[g]));
+    record_runs::raise(s, record_places::UNACCOUNTED, n, |g| out[4 * size + g]);
+    record_runs::raise(s, record_places::LOST, n, |g| row_sum(out, 0, m, g));
+    record_runs::raise(s, record_places::GENERATOR_SET_OFF, n, |g| {
+        row_sum(out, size, m, g)
+    });
     let underdrawn = 2 * size;
-    raise_by_kind(s, record_places::INADVERTENT, false, out, underdrawn, n, m);
-    raise_by_kind(s, record_places::PENDING, true, out, underdrawn, n, m);
+    let kinds = kinds(s);
+    record_runs::raise(s, record_places::INADVERTENT, n, |g| {
+        underdrawn_by_kind(kinds[g], false, out, underdrawn, m, g)
+    });
+    record_runs::raise(s, record_places::PENDING, n, |g| {
+        underdrawn_by_kind(kinds[g], true, out, underdrawn, m, g)
+    });
 }
 
 fn raise_consumers(s: &mut [u8], exit: &[u32], out: &[u64], n: usize, m: usize)
@@ -69,10 +68,14 @@ fn raise_consumers(s: &mut [u8], exit: &[u32], out: &[u64], n: usize, m: usize)
     ensures { words_in s.new ≡ consumers_raised n m exit.now out.now (words_in s.old) }
 {
     let size = n * m;
-    record_runs::raise_readings(s, record_places::METERED, exit, m);
-    record_runs::raise_columns(s, record_places::CONSUMER_SET_OFF, out, size, n, m);
-    record_runs::raise_columns(s, record_places::SHORTFALL, out, 3 * size, n, m);
-    record_runs::raise_numbers(s, record_places::OUTSTANDING, out, 4 * size + n, m);
+    record_runs::raise(s, record_places::METERED, m, |c| u64::from(exit[c]));
+    record_runs::raise(s, record_places::CONSUMER_SET_OFF, m, |c| {
+        column_sum(out, size, n, m, c)
+    });
+    record_runs::raise(s, record_places::SHORTFALL, m, |c| {
+        column_sum(out, 3 * size, n, m, c)
+    });
+    record_runs::raise(s, record_places::OUTSTANDING, m, |c| out[4 * size + n + c]);
 }
 
 // Pending and open of the class of hours whose bank starts at `start`.
@@ -83,8 +86,11 @@ fn raise_class(s: &mut [u8], start: usize, out: &[u64], n: usize, m: usize)
     let size = n * m;
     let pending = start + record_places::CLASS_PENDING;
     let remaining = start + record_places::CLASS_OUTSTANDING;
-    raise_by_kind(s, pending, true, out, 2 * size, n, m);
-    record_runs::raise_numbers(s, remaining, out, 4 * size + n, m);
+    let kinds = kinds(s);
+    record_runs::raise(s, pending, n, |g| {
+        underdrawn_by_kind(kinds[g], true, out, 2 * size, m, g)
+    });
+    record_runs::raise(s, remaining, m, |c| out[4 * size + n + c]);
 }
 
 // By hours the class of the block's slot is raised too, which the blocks that its month has before it tell.
@@ -92,12 +98,10 @@ fn raise_hours(s: &mut [u8], month: u64, out: &[u64], n: usize, m: usize)
     requires { Raisable off_peak_at 96 most_figure s.old × BlockLists n m out.now }
     ensures { words_in s.new ≡ hours_raised n m out.now (words_in s.old) month }
 {
-    let switch = record_numbers::number_at(s, record_places::SWITCH_MONTH);
-    let closings = record_numbers::number_at(s, record_places::CLOSINGS);
-    if hours::apply(switch, closings) {
-        let start = record_places::OFF_PEAK
-            + record_places::CLASS_NUMBERS * hours::class_after(month);
-        raise_class(s, start, out, n, m);
+    let switch = record_bytes::loading::load_switch(s);
+    if hours::apply(switch) {
+        let class = hours::class_after(month);
+        raise_class(s, class.start(), out, n, m);
     }
 }
 

@@ -1,2 +1,1 @@
-pub mod ComparedLaws
 pub mod CheckMeterLaws

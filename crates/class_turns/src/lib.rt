@@ -9,32 +9,20 @@ ghost use Rattle.class_turns.specs.Laws.TurnsSettled.{TurnsSettled};
 
 use class_bank::ClassBank;
 
-// the bank after all turns, and what each lacks: consumer c's turn for class k is number c * 3 + k
-#[derive(Clone, Copy)]
-pub struct Settled {
-    pub bank: ClassBank,
-    pub lacking: [u64; 48],
-}
-
-// All 16 places of consumers have their turns. Those beyond the agreement want nothing, and nobody serves them. What it asks is what
-// closing_by_hours has shown when it comes to its own drawing.
-pub fn settle_turns(s: &[u8], bank: ClassBank, n: usize) -> Settled
-    requires { Drawable s.now bank n (book_in s.now).plan.C }
-    ensures { TurnsSettled (book_in s.now) 48 result.bank.balance result.lacking }
+// All 16 places of consumers have their turns. Those beyond the agreement want nothing, and nobody serves them. The result is what each turn
+// lacks: consumer c's turn for class k is number c * 3 + k. What it asks is what closing_by_hours has shown when it comes to its own drawing.
+pub fn settle_turns(s: &[u8], bank: &mut ClassBank, n: usize) -> [u64; 48]
+    requires { Drawable s.now bank.old.balance n (book_in s.now).plan.C }
+    ensures { TurnsSettled (book_in s.now) 48 bank.new.balance result }
 {
-    let mut balance = bank.balance;
     let mut lacking = [0u64; 48];
-    let mut t: usize = 0;
-    while t < 48 {
+    for t in 0..48 {
         let c = t / 3;
         let k = t % 3;
         let suppliers = record_order::suppliers_at(s, n, c);
-        let keys = suppliers.keys;
         let class = record_places::OFF_PEAK + k * record_places::CLASS_NUMBERS;
         let want = record_numbers::number_at(s, class + c + record_places::CLASS_OUTSTANDING);
-        lacking[c * 3 + k] = class_bank::serve(&keys, suppliers.count, k, &mut balance, want);
-        t += 1;
+        lacking[c * 3 + k] = class_bank::serve(&suppliers, k, &mut bank.balance, want);
     }
-    let bank = ClassBank { balance };
-    Settled { bank, lacking }
+    lacking
 }

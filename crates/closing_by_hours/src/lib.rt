@@ -24,11 +24,9 @@ fn of_classes(s: &[u8], at: usize, count: usize) -> [u64; 24]
     ensures { result ≡ filled (replicate 24 0) count (class_number (words_in s.now) at) }
 {
     let mut out = [0u64; 24];
-    let mut i: usize = 0;
-    while i < count {
+    for i in 0..count {
         let class = record_places::OFF_PEAK + i % 3 * record_places::CLASS_NUMBERS;
         out[i] = record_numbers::number_at(s, class + i / 3 + at);
-        i += 1;
     }
     out
 }
@@ -46,75 +44,54 @@ fn wanted_at(s: &[u8], c: usize) -> [u64; 3]
 }
 
 // By generator, over its three classes: how much more the first list has than the second.
-fn by_generator(more: [u64; 24], less: [u64; 24], n: usize) -> [u64; 8]
-    requires { (n ≤ 8) × Exceeds more less n }
-    ensures { result ≡ filled (replicate 8 0) n (excess more less) }
+fn by_generator(more: &[u64; 24], less: &[u64; 24], n: usize) -> [u64; 8]
+    requires { (n ≤ 8) × Exceeds more.now less.now n }
+    ensures { result ≡ filled (replicate 8 0) n (excess more.now less.now) }
 {
     let mut out = [0u64; 8];
-    let mut g: usize = 0;
-    while g < n {
+    for g in 0..n {
         let k = g * 3;
         out[g] = (more[k] - less[k]) + (more[k + 1] - less[k + 1]) + (more[k + 2] - less[k + 2]);
-        g += 1;
     }
     out
 }
 
-// the bank after all consumers have drawn, and what each lacks
-#[derive(Clone, Copy)]
-struct Drawing {
-    bank: ClassBank,
-    supplied: [u64; 16],
-}
-
 // Steps 2 and 3: consumers 1 to m draw one after the other, each on its suppliers as they stand in the record's bytes. What each
-// draws goes into its column of drawn's stretch.
-fn draw_all(s: &[u8], bank: ClassBank, n: usize, m: usize, drawn: &mut [u64]) -> Drawing
-    requires { Drawable s.now bank n m × (length drawn.old ≡ n * m) }
-    ensures { Drawn (book_in s.now) n m m result.bank drawn.new result.supplied }
+// draws goes into its column of drawn's stretch; the result is what each lacks.
+fn draw_all(s: &[u8], bank: &mut ClassBank, n: usize, m: usize, drawn: &mut [u64]) -> [u64; 16]
+    requires { Drawable s.now bank.old.balance n m × (length drawn.old ≡ n * m) }
+    ensures { Drawn (book_in s.now) n m m bank.new.balance drawn.new result }
 {
     let mut supplied = [0u64; 16];
-    let mut left = bank;
-    let mut c: usize = 0;
-    while c < m {
+    for c in 0..m {
         let suppliers = record_order::suppliers_at(s, n, c);
-        let keys = suppliers.keys;
-        let want = wanted_at(s, c);
-        let turn = left.draw(suppliers.count, keys, want);
-        let next = turn.bank;
-        let had = left.balance;
-        let has = next.balance;
-        let column = by_generator(had, has, n);
+        let had = bank.balance;
+        let lacking = class_bank::draw(bank, &suppliers, wanted_at(s, c));
+        let column = by_generator(&had, &bank.balance, n);
         output_lists::put_column(drawn, n, m, c, &column);
-        let lacking = turn.left;
         supplied[c] = lacking[0] + lacking[1] + lacking[2];
-        left = next;
-        c += 1;
     }
-    Drawing {
-        bank: left,
-        supplied,
-    }
+    supplied
 }
 
 // The five lists after drawn's: figures by generator and class are added up by generator, and nothing stays in the bank.
 fn write_sums(
     out: &mut [u64],
-    charge: [u64; 24],
-    lapsed: [u64; 24],
-    outstanding: [u64; 16],
-    supplied: [u64; 16],
+    charge: &[u64; 24],
+    lapsed: &[u64; 24],
+    outstanding: &[u64; 16],
+    supplied: &[u64; 16],
     n: usize,
     m: usize,
 )
-    requires { OutputRoom out.old n m × (Exceeds charge (replicate 24 0) n × Exceeds lapsed (replicate 24 0) n) }
-    ensures { out.new ≡ five_lists (summed charge n) (summed lapsed n) (replicate 8 0) outstanding supplied n m }
+    requires { OutputRoom out.old n m × (Exceeds charge.now (replicate 24 0) n × Exceeds lapsed.now (replicate 24 0) n) }
+    ensures { out.new ≡ five_lists (summed charge.now n) (summed lapsed.now n) (replicate 8 0) outstanding.now supplied.now n m }
 {
     let none = [0u64; 24];
-    let charges = by_generator(charge, none, n);
-    let lapses = by_generator(lapsed, none, n);
+    let charges = by_generator(charge, &none, n);
+    let lapses = by_generator(lapsed, &none, n);
     let stays = [0u64; 8];
-    closing_lists::write_lists(out, charges, lapses, stays, outstanding, supplied, n, m);
+    closing_lists::write_lists(out, &charges, &lapses, &stays, outstanding, supplied, n, m);
 }
 
 // Steps 1 to 4 by hours on what the record holds for them, and their lists into the slice.
@@ -127,23 +104,12 @@ pub fn make(s: &[u8], terms: Terms, out: &mut [u64])
     let count = 3 * n;
     let held = of_classes(s, 0, count);
     let pending = of_classes(s, record_places::CLASS_PENDING, count);
-    let outstanding = record_bytes::loading::load16(s, record_places::OUTSTANDING);
-    let before = ClassBank { balance: held };
-    let credit = before.credit(count, pending, terms.rate);
-    let charge = credit.charge;
-    let size = n * m;
-    let drawing = draw_all(s, credit.bank, n, m, &mut out[0..size]);
-    let supplied = drawing.supplied;
-    let drawn_on = drawing.bank;
-    let lapse = drawn_on.lapse();
-    let lapsed = lapse.lapsed;
-    write_sums(
-        &mut out[size..],
-        charge,
-        lapsed,
-        outstanding,
-        supplied,
-        n,
-        m,
-    );
+    let outstanding = record_bytes::loading::load_list(s, record_places::OUTSTANDING);
+    let mut bank = ClassBank { balance: held };
+    let charge = bank.credit(count, &pending, terms.rate);
+    let (drawn, lists) = out.split_at_mut(n * m);
+    let supplied = draw_all(s, &mut bank, n, m, drawn);
+    // by hours every closing ends with a lapse
+    let lapsed = bank.lapse(true);
+    write_sums(lists, &charge, &lapsed, &outstanding, &supplied, n, m);
 }

@@ -2,14 +2,23 @@
 #![tactic(auto)]
 
 ghost use Rattle.std.specs.Prelude.{◌≡◌, ◌≤◌};
+ghost use Rattle.refusal.specs.Numbers.{shown};
 ghost use Rattle.closing_rules.specs.Closing.{closing_number};
 
-// The number of a closing on a sound record with n generators and m consumers, whose month holds so many blocks.
-pub fn refusal(n: usize, m: usize, month: u64, size: usize) -> u32
+use refusal::Refusal;
+
+// Whether a closing is refused on a sound record with n generators and m consumers, whose month holds so many blocks: the lowest number
+// first.
+#[tactic(auto, unfolding(lists::specs::Refusals::first_of, closing_rules::specs::Closing::closing_number, closing_rules::specs::Closing::closing_length))]
+pub fn check(n: usize, m: usize, month: u64, size: usize) -> Result<(), Refusal>
     requires { (n ≤ 8) × (m ≤ 16) }
-    ensures { result ≡ closing_number n m month size }
+    ensures { shown result ≡ closing_number n m month size }
 {
-    let sized = size == n * m + 3 * n + 2 * m;
-    let empty = lists::first(month == 0, 13, 0);
-    lists::first(!sized, 2, empty)
+    if size != n * m + 3 * n + 2 * m {
+        return Err(Refusal::WrongSize);
+    }
+    if month == 0 {
+        return Err(Refusal::MonthEmpty);
+    }
+    Ok(())
 }

@@ -15,16 +15,16 @@ ghost use Rattle.closing_totals.specs.Laws.ClosingTotals.{counts_after, totals_r
 ghost use Rattle.record_places.specs.RecordSize.{record_bytes, words_in};
 ghost use Rattle.record_places.specs.Laws.Places.{charge_at};
 
-use bank::Bank;
 use record::{Counts, Switch, Terms};
+use record_runs::{column_sum, row_sum};
 
 // Months gone after the closing; with a lapse a new cycle starts at 0.
-fn months_gone(switch: Switch, gone: u64, cycle: u64) -> u64
-    requires { gone ≤ most_cycle }
-    ensures { result ≡ (if lapse_due switch.month switch.closings gone cycle then 0 else gone + 1) }
+fn months_gone(terms: Terms, counts: Counts, switch: Switch) -> u64
+    requires { counts.gone ≤ most_cycle }
+    ensures { result ≡ (if lapse_due switch.month switch.closings counts.gone terms.cycle then 0 else counts.gone + 1) }
 {
-    let due = Bank::lapse_due(switch, gone, cycle);
-    if due { 0 } else { gone + 1 }
+    let due = bank::lapse_due(terms, counts, switch);
+    if due { 0 } else { counts.gone + 1 }
 }
 
 // One closing more is done, and the next month has no block yet.
@@ -32,7 +32,7 @@ fn start_month(s: &mut [u8], terms: Terms, counts: Counts, switch: Switch)
     requires { HeadRead s.old terms counts × ((switch ≡ (record_in s.old).switch) × ((counts.gone ≤ most_cycle) × (switch.closings ≤ most_unit_blocks))) }
     ensures { words_in s.new ≡ counts_after (words_in s.old) }
 {
-    let gone = months_gone(switch, counts.gone, terms.cycle);
+    let gone = months_gone(terms, counts, switch);
     record_numbers::put_at(s, record_places::GONE, gone);
     record_numbers::put_at(s, record_places::MONTH_BLOCKS, 0);
     record_numbers::put_at(s, record_places::CLOSINGS, switch.closings + 1);
@@ -44,11 +44,21 @@ fn raise_totals(s: &mut [u8], out: &[u64], n: usize, m: usize)
 {
     let size = n * m;
     let lapsed = size + n;
-    record_runs::raise_numbers(s, record_places::CHARGE, out, size, n);
-    record_runs::raise_rows(s, record_places::GENERATOR_DRAWN, out, 0, n, m);
-    record_runs::raise_numbers(s, record_places::LAPSED, out, lapsed, n);
-    record_runs::raise_columns(s, record_places::CONSUMER_DRAWN, out, 0, n, m);
-    record_runs::raise_numbers(s, record_places::SUPPLIED, out, size + 3 * n + m, m);
+    record_runs::raise(s, record_places::CHARGE, n, |g| out[size + g]);
+    record_runs::raise(
+        s,
+        record_places::GENERATOR_DRAWN,
+        n,
+        |g| row_sum(out, 0, m, g),
+    );
+    record_runs::raise(s, record_places::LAPSED, n, |g| out[lapsed + g]);
+    record_runs::raise(
+        s,
+        record_places::CONSUMER_DRAWN,
+        m,
+        |c| column_sum(out, 0, n, m, c),
+    );
+    record_runs::raise(s, record_places::SUPPLIED, m, |c| out[size + 3 * n + m + c]);
 }
 
 // The bank that is left, and nothing pending or open.
@@ -56,9 +66,9 @@ fn replace_stocks(s: &mut [u8], out: &[u64], n: usize, m: usize)
     requires { (length s.old ≡ record_bytes) × ClosingLists n m out.now }
     ensures { words_in s.new ≡ stocks_replaced n m out.now (words_in s.old) }
 {
-    record_runs::replace_numbers(s, record_places::BANK, out, n * m + 2 * n, n);
-    record_runs::clear_numbers(s, record_places::PENDING, n);
-    record_runs::clear_numbers(s, record_places::OUTSTANDING, m);
+    record_runs::replace(s, record_places::BANK, n, |g| out[n * m + 2 * n + g]);
+    record_runs::clear(s, record_places::PENDING, n);
+    record_runs::clear(s, record_places::OUTSTANDING, m);
 }
 
 // Nothing in the bank, pending or open of the class of hours that starts there.
@@ -66,9 +76,9 @@ fn clear_class(s: &mut [u8], start: usize, n: usize, m: usize)
     requires { Replaceable start 32 s.old × ((n ≤ 8) × (m ≤ 16)) }
     ensures { words_in s.new ≡ class_cleared n m start (words_in s.old) }
 {
-    record_runs::clear_numbers(s, start, n);
-    record_runs::clear_numbers(s, start + record_places::CLASS_PENDING, n);
-    record_runs::clear_numbers(s, start + record_places::CLASS_OUTSTANDING, m);
+    record_runs::clear(s, start, n);
+    record_runs::clear(s, start + record_places::CLASS_PENDING, n);
+    record_runs::clear(s, start + record_places::CLASS_OUTSTANDING, m);
 }
 
 // After a closing by hours no class holds anything; before the switch month none ever does.
@@ -76,7 +86,7 @@ fn clear_classes(s: &mut [u8], switch: Switch, n: usize, m: usize)
     requires { (length s.old ≡ record_bytes) × ((n ≤ 8) × (m ≤ 16)) }
     ensures { words_in s.new ≡ classes_after (hours_apply switch.month switch.closings) n m (words_in s.old) }
 {
-    if hours::apply(switch.month, switch.closings) {
+    if hours::apply(switch) {
         clear_class(s, record_places::OFF_PEAK, n, m);
         clear_class(s, record_places::NORMAL, n, m);
         clear_class(s, record_places::PEAK, n, m);

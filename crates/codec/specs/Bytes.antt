@@ -15,7 +15,11 @@ unfoldable pub encode : ℕ → List ℕ → List ℕ
 encode k [] = []
 encode k (w ∷ ws) = bytes k w ++ encode k ws
 
+-- the first n numbers of the bytes s, each of k bytes, as `of` reads one
+unfoldable pub decode_as : {X : Type 0} → (List ℕ → X) → ℕ → ℕ → List ℕ → List X
+decode_as of k zero s = []
+decode_as of k (suc n) s = of (take k s) ∷ decode_as of k n (drop k s)
+
 -- the first n numbers of the bytes s
-unfoldable pub decode : ℕ → ℕ → List ℕ → List ℕ
-decode k zero s = []
-decode k (suc n) s = number (take k s) ∷ decode k n (drop k s)
+abbrev pub decode : ℕ → ℕ → List ℕ → List ℕ
+decode k n s = decode_as number k n s

@@ -1,6 +1,9 @@
 pub mod ChoiceLaws
 pub mod TablesLaws
+pub mod FromFnLaws
 pub mod SumsLaws
 pub mod TestsLaws
+pub mod SliceLaws
+pub mod RangeLaws
 pub mod PairsLaws
 pub mod RefusalsLaws

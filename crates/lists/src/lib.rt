@@ -4,12 +4,6 @@
 ghost use Rattle.std.specs.Prelude.{◌≡◌, if◌then◌else◌};
 ghost use Rattle.lists.specs.Tests.{within};
 
-pub fn wide(x: u32) -> u64
-    ensures { result ≡ x }
-{
-    x as u64
-}
-
 // The number where its test holds, else what the later tests gave: so the lowest number that applies is returned.
 pub fn first(test: bool, number: u32, later: u32) -> u32
     ensures { result ≡ (if test then number else later) }

@@ -4,6 +4,7 @@
 ghost use Rattle.std.specs.Prelude.{◌≡◌, ◌*◌, ◌≤◌, length};
 ghost use Rattle.codec.specs.Bytes.{encode};
 ghost use Rattle.energy.specs.Limits.{most_generators, most_consumers};
+ghost use Rattle.refusal.specs.Numbers.{shown};
 ghost use Rattle.record.specs.Book.{no_injection, no_consumption, no_stocks};
 ghost use Rattle.record.specs.Stored.{stored_generators, stored_consumers, stored_stocks, stored, zeros};
 ghost use Rattle.record.specs.RecordWords.{words};
@@ -11,9 +12,12 @@ ghost use Rattle.agreement_rules.specs.Opening.{asked, opened, Opened, Permitted
 ghost use Rattle.agreement_rules.specs.Laws.AgreedReading.{Threes};
 ghost use Rattle.agreement_rules.specs.Laws.AgreedParts.{terms_from, first_counts, first_switch, agreed_from, links_from, first_schedule};
 ghost use Rattle.agreement_rules.specs.OpenedOn.{OpenedOn};
+ghost use Rattle.opening_refusal.specs.Laws.OpeningAsked.{opening_asked};
 ghost use Rattle.record_places.specs.RecordSize.{record_bytes};
 
-use opening_refusal::refusal;
+use opening_refusal::Asked;
+use record::Answer;
+use refusal::Refusal;
 
 fn terms_from(n: usize, m: usize, rate: u32, cycle: u32) -> record::Terms
     ensures { result ≡ terms_from n m rate cycle }
@@ -21,18 +25,19 @@ fn terms_from(n: usize, m: usize, rate: u32, cycle: u32) -> record::Terms
     record::Terms {
         generators: n as u64,
         consumers: m as u64,
-        rate: lists::wide(rate),
-        cycle: lists::wide(cycle),
+        rate: u64::from(rate),
+        cycle: u64::from(cycle),
     }
 }
 
 // No blocks yet. Months gone are those given, or 0 where the first closing goes by hours.
+#[tactic(auto, unfolding(agreement_rules::specs::Laws::AgreedParts::first_counts, agreement_rules::specs::Opening::first_gone))]
 fn first_counts(gone: u32, switch: u32) -> record::Counts
     ensures { result ≡ first_counts gone switch }
 {
-    let first = lists::first(switch == 1, 0, gone);
+    let first = if switch == 1 { 0 } else { gone };
     record::Counts {
-        gone: lists::wide(first),
+        gone: u64::from(first),
         unitblocks: 0,
         monthblocks: 0,
     }
@@ -41,7 +46,7 @@ fn first_counts(gone: u32, switch: u32) -> record::Counts
 fn first_switch(switch: u32) -> record::Switch
     ensures { result ≡ first_switch switch }
 {
-    let month = lists::wide(switch);
+    let month = u64::from(switch);
     record::Switch { month, closings: 0 }
 }
 
@@ -159,27 +164,19 @@ fn zero_record() -> record::Record
 }
 
 // Stores the record of a permitted opening, each part made just before it is stored: no whole record is built.
-fn store_opened(
-    n: usize,
-    m: usize,
-    rate: u32,
-    cycle: u32,
-    gone: u32,
-    switch: u32,
-    generator_list: &[u32],
-    pair_list: &[u32],
-    s: &mut [u8],
-)
-    requires { Permitted (asked n m rate cycle gone switch generator_list.now pair_list.now) × (length s.old ≡ record_bytes) }
-    ensures { s.new ≡ encode 8 (words (stored (opened (asked n m rate cycle gone switch generator_list.now pair_list.now)))) }
+fn store_opened(asked: Asked, s: &mut [u8])
+    requires { Permitted (opening_asked asked) × (length s.old ≡ record_bytes) }
+    ensures { s.new ≡ encode 8 (words (stored (opened (opening_asked asked.entry)))) }
 {
-    let terms = terms_from(n, m, rate, cycle);
+    let n = asked.generators as usize;
+    let m = asked.consumers as usize;
+    let terms = terms_from(n, m, asked.rate, asked.cycle);
     record_bytes::storing::store_terms(terms, s);
-    let counts = first_counts(gone, switch);
+    let counts = first_counts(asked.gone, asked.switch);
     record_bytes::storing::store_counts(counts, s);
-    let agreed = agreed_from(n, generator_list);
+    let agreed = agreed_from(n, asked.generator_list);
     record_bytes::storing::store_agreed(agreed, s);
-    let links = links_from(n, m, pair_list);
+    let links = links_from(n, m, asked.pair_list);
     record_bytes::storing::store_links(links, s);
     let schedule = first_schedule(n, m);
     record_bytes::storing::store_schedule(schedule, s);
@@ -187,7 +184,7 @@ fn store_opened(
     record_bytes::storing::store_generators(generators, s);
     let consumers = no_consumption();
     record_bytes::storing::store_consumers(consumers, s);
-    let first = first_switch(switch);
+    let first = first_switch(asked.switch);
     record_bytes::storing::store_switch(first, s);
     let stocks = no_stocks();
     record_bytes::storing::store_stocks(stocks, s, record_places::OFF_PEAK);
@@ -196,41 +193,18 @@ fn store_opened(
 }
 
 // Opens a unit in a record's bytes, whatever they hold; a refused opening leaves them as they were.
-pub fn opening_on(
-    generators: u32,
-    consumers: u32,
-    rate: u32,
-    cycle: u32,
-    gone: u32,
-    switch: u32,
-    generator_list: &[u32],
-    pair_list: &[u32],
-    s: &mut [u8],
-) -> u32
+#[tactic(auto, unfolding(record_layout::specs::OnBytes::bytes_after))]
+pub fn opening_on(asked: Asked, s: &mut [u8]) -> Result<(), Refusal>
     requires { length s.old ≡ record_bytes }
-    ensures { OpenedOn (asked generators consumers rate cycle gone switch generator_list.now pair_list.now) s.old result s.new }
+    ensures { OpenedOn (opening_asked asked.entry) s.old (shown result) s.new }
 {
-    let n = generators as usize;
-    let m = consumers as usize;
-    let number = refusal(n, m, rate, cycle, gone, switch, generator_list, pair_list);
-    if number == 0 {
-        store_opened(
-            n,
-            m,
-            rate,
-            cycle,
-            gone,
-            switch,
-            generator_list,
-            pair_list,
-            s,
-        );
-        return 0;
-    }
-    number
+    opening_refusal::check(asked)?;
+    store_opened(asked, s);
+    Ok(())
 }
 
 // Opens a unit; a refused opening returns zeros.
+#[tactic(auto, using(crate::specs::Laws::OpenedOnLaws::opened_back))]
 pub fn opening(
     generators: u32,
     consumers: u32,
@@ -240,11 +214,10 @@ pub fn opening(
     switch: u32,
     generator_list: &[u32],
     pair_list: &[u32],
-) -> record::Answer
+) -> Answer
     ensures { Opened (asked generators consumers rate cycle gone switch generator_list.now pair_list.now) result.number result.after }
 {
-    let mut s = [0u8; record_places::RECORD_BYTES];
-    let number = opening_on(
+    let asked = Asked {
         generators,
         consumers,
         rate,
@@ -253,13 +226,17 @@ pub fn opening(
         switch,
         generator_list,
         pair_list,
-        &mut s,
-    );
-    if number == 0 {
-        let after = record_bytes::loading::load(&s);
-        record::Answer { number: 0, after }
-    } else {
-        let after = zero_record();
-        record::Answer { number, after }
+    };
+    let mut s = [0u8; record_places::RECORD_BYTES];
+    match opening_on(asked, &mut s) {
+        Ok(()) => {
+            let after = record_bytes::loading::load(&s);
+            Answer { number: 0, after }
+        }
+        Err(refusal) => {
+            let number = refusal.number();
+            let after = zero_record();
+            Answer { number, after }
+        }
     }
 }

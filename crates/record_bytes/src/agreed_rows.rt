@@ -2,17 +2,17 @@
 ghost use Rattle.std.specs.Prelude.{◌≡◌, ◌<◌};
 ghost use Rattle.record_layout.specs.Laws.Layout.{agreed_run, column_of};
 
+use std::array;
+
 // The lists as rows.
 pub fn rows(t: record::Agreed) -> [u64; 24]
     ensures { result ≡ agreed_run t }
 {
     let mut out = [0u64; 24];
-    let mut g: usize = 0;
-    while g < 8 {
+    for g in 0..8 {
         out[g * 3] = t.kind[g];
         out[g * 3 + 1] = t.installed[g];
         out[g * 3 + 2] = t.contracted[g];
-        g += 1;
     }
     out
 }
@@ -22,11 +22,5 @@ pub fn column(rows: [u64; 24], k: usize) -> [u64; 8]
     requires { k < 3 }
     ensures { result ≡ column_of rows k }
 {
-    let mut out = [0u64; 8];
-    let mut g: usize = 0;
-    while g < 8 {
-        out[g] = rows[g * 3 + k];
-        g += 1;
-    }
-    out
+    array::from_fn(|g| rows[g * 3 + k])
 }

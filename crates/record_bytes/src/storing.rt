@@ -7,6 +7,8 @@ ghost use Rattle.record_places.specs.RecordSize.{record_numbers, record_bytes};
 ghost use Rattle.record_places.specs.Laws.Places.{generator_count_at, gone_at, agreed_at, link_at, kw_at, injected_at, metered_at, switch_month_at, off_peak_at};
 ghost use Rattle.record_layout.specs.OnBytes.{record_in};
 
+use crate::agreed_rows;
+
 // A list of the record, from place `at` on.
 fn store_run(run: &[u64], s: &mut [u8], at: usize)
     requires { (length s.old ≡ record_bytes) × (at + length run.now ≤ record_numbers) }
@@ -35,7 +37,7 @@ pub fn store_agreed(t: record::Agreed, s: &mut [u8])
     requires { length s.old ≡ record_bytes }
     ensures { Laid agreed_at link_at (agreed_run t) s.old s.new }
 {
-    let run = crate::agreed_rows::rows(t);
+    let run = agreed_rows::rows(t);
     store_run(&run, s, record_places::AGREED);
 }
 

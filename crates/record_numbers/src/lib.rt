@@ -4,12 +4,14 @@
 ghost use Rattle.std.specs.Prelude.{◌≡◌, ◌+◌, ◌<◌, length, get_or, set};
 ghost use Rattle.record_places.specs.RecordSize.{record_numbers, record_bytes, words_in};
 
+use codec::Number;
+
 // Number `k` of the record, read where it stands.
 pub fn number_at(s: &[u8], k: usize) -> u64
     requires { (length s.now ≡ record_bytes) × (k < record_numbers) }
     ensures { result ≡ get_or (words_in s.now) k 0 }
 {
-    codec::number8(s, k * 8)
+    u64::read_first(&s[k * 8..])
 }
 
 // Writes number `k` of the record where it stands; the others stay.

@@ -14,10 +14,8 @@ fn total(kw: [u32; 16]) -> u64
     ensures { result ≡ sum most_consumers (place most_consumers kw) }
 {
     let mut sum: u64 = 0;
-    let mut c: usize = 0;
-    while c < 16 {
+    for c in 0..16 {
         sum += kw[c] as u64;
-        c += 1;
     }
     sum
 }
@@ -31,15 +29,13 @@ fn parts(k: u64, all: u64, kw: [u32; 16]) -> [u32; 16]
     let mut out = [0u32; 16];
     let mut sum: u64 = 0;
     let mut last: u64 = 0;
-    let mut c: usize = 0;
-    while c < 16 {
+    for c in 0..16 {
         if kw[c] > 0 {
             sum += kw[c] as u64;
             let share = k * sum / all;
             out[c] = (share - last) as u32;
             last = share;
         }
-        c += 1;
     }
     out
 }
@@ -49,7 +45,7 @@ pub fn share(k: u32, kw: [u32; 16]) -> [u32; 16]
     ensures { result ≡ shared k kw }
 {
     let all = total(kw);
-    if lists::wide(k) > energy::MOST_READING {
+    if u64::from(k) > energy::MOST_READING {
         return [0u32; 16];
     }
     if all > energy::MOST_CAPACITY {

@@ -23,11 +23,9 @@ fn row_total(s: &[u8], g: usize, n: usize) -> u64
     ensures { RowTotal (record_in s.now).schedule.kw g n result }
 {
     let mut total: u64 = 0;
-    let mut c: usize = 0;
-    while c < n {
+    for c in 0..n {
         total = total
             + sound_items::capped(record_numbers::number_at(s, record_places::KW + (g * 16 + c)));
-        c += 1;
     }
     total
 }
@@ -60,10 +58,8 @@ fn agreed_all_sound(s: &[u8], n: usize, m: usize) -> bool
     ensures { result ≡ all 8 (λ g. agreed_test (record_in s.now).agreed (record_in s.now).schedule.kw n (limit (ltb g n) m) g) }
 {
     let mut ok = true;
-    let mut g: usize = 0;
-    while g < 8 {
+    for g in 0..8 {
         ok = ok & agreed_at(s, g, n, m);
-        g += 1;
     }
     ok
 }
@@ -88,15 +84,13 @@ fn beyond_sound(s: &[u8], from: usize, n: usize) -> bool
     ensures { result ≡ all n (λ i. pair_held s.now false (from + i)) }
 {
     let mut bits: u64 = 0;
-    let mut i: usize = 0;
-    while i < n {
+    for i in 0..n {
         let k = from + i;
         bits = bits
             | record_numbers::number_at(s, record_places::LINK + k)
             | record_numbers::number_at(s, record_places::LOSS + k)
             | record_numbers::number_at(s, record_places::KW + k)
             | record_numbers::number_at(s, record_places::RANK + k);
-        i += 1;
     }
     bits == 0
 }
@@ -108,10 +102,8 @@ fn row_sound(s: &[u8], g: usize, m: usize) -> bool
 {
     let start = g * 16;
     let mut ok = true;
-    let mut c: usize = 0;
-    while c < m {
+    for c in 0..m {
         ok = ok & pair_within(s, start + c);
-        c += 1;
     }
     ok & beyond_sound(s, start + m, 16 - m)
 }
@@ -121,10 +113,8 @@ fn pairs_sound(s: &[u8], n: usize, m: usize) -> bool
     ensures { result ≡ all 8 (λ g. all 16 (pair_test (record_in s.now).links.link (record_in s.now).links.loss (record_in s.now).schedule.kw (record_in s.now).schedule.rank n m g)) }
 {
     let mut ok = true;
-    let mut g: usize = 0;
-    while g < n {
+    for g in 0..n {
         ok = ok & row_sound(s, g, m);
-        g += 1;
     }
     ok & beyond_sound(s, n * 16, 128 - n * 16)
 }
@@ -153,10 +143,8 @@ fn generators_sound(s: &[u8], n: usize, blocks: u64) -> bool
     ensures { result ≡ all 8 (generator_test (record_in s.now).generators n blocks) }
 {
     let mut ok = true;
-    let mut g: usize = 0;
-    while g < 8 {
+    for g in 0..8 {
         ok = ok & sound_items::generator_sound(blocks, g < n, generator_terms(s, g));
-        g += 1;
     }
     ok
 }
@@ -181,10 +169,8 @@ fn consumers_sound(s: &[u8], m: usize, blocks: u64) -> bool
     ensures { result ≡ all 16 (consumer_test (record_in s.now).consumers m blocks) }
 {
     let mut ok = true;
-    let mut c: usize = 0;
-    while c < 16 {
+    for c in 0..16 {
         ok = ok & sound_items::consumer_sound(blocks, c < m, consumer_terms(s, c));
-        c += 1;
     }
     ok
 }
@@ -195,13 +181,11 @@ fn classes_empty(s: &[u8]) -> bool
     ensures { result ≡ classes_held false s.now }
 {
     let mut bits: u64 = 0;
-    let mut j: usize = 0;
-    while j < record_places::CLASS_NUMBERS {
+    for j in 0..record_places::CLASS_NUMBERS {
         bits = bits
             | record_numbers::number_at(s, record_places::OFF_PEAK + j)
             | record_numbers::number_at(s, record_places::NORMAL + j)
             | record_numbers::number_at(s, record_places::PEAK + j);
-        j += 1;
     }
     bits == 0
 }
@@ -212,8 +196,7 @@ fn list_added_up(s: &[u8], at: usize, first: usize, n: usize) -> bool
     ensures { result ≡ list_held true s.now at first n }
 {
     let mut ok = true;
-    let mut i: usize = 0;
-    while i < n {
+    for i in 0..n {
         let k = first + i;
         ok = ok
             & sound_items::classes_sound(
@@ -222,7 +205,6 @@ fn list_added_up(s: &[u8], at: usize, first: usize, n: usize) -> bool
                 record_numbers::number_at(s, record_places::NORMAL + k),
                 record_numbers::number_at(s, record_places::PEAK + k),
             );
-        i += 1;
     }
     ok
 }
@@ -250,11 +232,12 @@ fn hours_sound(s: &[u8], counts: Counts) -> bool
     requires { (length s.now ≡ record_bytes) × (counts ≡ (record_in s.now).counts) }
     ensures { result ≡ hours_test (book_in s.now) }
 {
-    let month = record_numbers::number_at(s, record_places::SWITCH_MONTH);
-    let closings = record_numbers::number_at(s, record_places::CLOSINGS);
-    let hours = hours::apply(month, closings);
-    sound_items::switch_sound(hours, Switch { month, closings }, counts)
-        & classes_all_sound(s, hours)
+    let switch = Switch {
+        month: record_numbers::number_at(s, record_places::SWITCH_MONTH),
+        closings: record_numbers::number_at(s, record_places::CLOSINGS),
+    };
+    let hours = hours::apply(switch);
+    sound_items::switch_sound(hours, switch, counts) & classes_all_sound(s, hours)
 }
 
 // The test of the record that the bytes hold, with its terms and counts.

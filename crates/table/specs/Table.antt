@@ -1,13 +1,13 @@
 -- The readings table (document 01): what reading a text gives. How a table is written: TableText of the crate table_text.
 -- The digits and the limit of a value: Values of the crate table_scan.
 -- A text is its list of bytes; places count from 0. Assumes nothing.
-use Rattle.std.specs.Prelude.{◌≡◌, Bool, true, false, not, ◌&&◌, List, [], ◌∷◌, ◌++◌, ℕ, ◌+◌, ◌-◌, ◌*◌, ◌/◌, ◌%◌, length, take, drop, leb, ltb, eqb, if◌then◌else◌}
+use Rattle.std.specs.Prelude.{◌≡◌, Bool, true, false, not, ◌&&◌, List, [], ◌∷◌, ◌++◌, ℕ, ◌+◌, ◌-◌, ◌*◌, ◌/◌, ◌%◌, length, take, drop, leb, ltb, eqb, if◌then◌else◌, Result, IfOk}
 use Rattle.lists.specs.Tests.{within}
 use Rattle.lists.specs.Refusals.{first_of}
 use Rattle.table_text.specs.TableText.{printed, names_line}
 use Rattle.table_scan.specs.Values.{is_digit, largest}
-use Rattle.table.specs.declared.Read.{Read}
-use Rattle.table.specs.declared.Read.TheVariants.{Lines, Refused}
+use Rattle.refusal.specs.declared.Refusal.{Refusal}
+use Rattle.refusal.specs.Numbers.{shown}
 
 -- ---- The parts of a text
 
@@ -75,26 +75,6 @@ read_number g c text room =
 abbrev pub line_count : ℕ → ℕ → List ℕ → ℕ
 line_count g c text = length (values g c text) / (g + c)
 
--- those that are returned: none where the text is refused
-unfoldable pub read_lines : ℕ → ℕ → List ℕ → ℕ → ℕ
-read_lines g c text room = if eqb (read_number g c text room) 0 then line_count g c text else 0
-
--- Document 01's number for each answer, 0 where it is accepted, and its count of lines.
-unfoldable pub displayed : Read → ℕ
-displayed (Lines k) = 0
-displayed (Refused n) = n
-
-unfoldable pub lines_of : Read → ℕ
-lines_of (Lines k) = k
-lines_of (Refused n) = 0
-
--- the answer itself: its lines, or its number
-unfoldable pub read_answer : ℕ → ℕ → List ℕ → ℕ → Read
-read_answer g c text room =
-    if eqb (read_number g c text room) 0
-    then Lines (line_count g c text)
-    else Refused (read_number g c text room)
-
 -- 'writes the values from the start, leaves the rest'
 unfoldable pub from_start : List ℕ → List ℕ → List ℕ
 from_start vs out = vs ++ drop (length vs) out
@@ -103,9 +83,9 @@ from_start vs out = vs ++ drop (length vs) out
 unfoldable pub read_output : ℕ → ℕ → List ℕ → List ℕ → List ℕ
 read_output g c text out = if eqb (read_number g c text (length out)) 0 then from_start (values g c text) out else out
 
--- A call of the reader on out gave the answer r and left last in its place
-pub record ReadMeets (g c : ℕ) (text out : List ℕ) (r : Read) (last : List ℕ) : Type 0 where
-  pub number : displayed r ≡ read_number g c text (length out)
-  pub lines : lines_of r ≡ read_lines g c text (length out)
-  pub answer : r ≡ read_answer g c text (length out)
+-- A call of the reader on out gave the answer r and left last in its place. No two refusals have one number, and none has 0: so the
+-- number and the lines say which answer it is (`one_answer` in Laws/ReadMeetsLaws).
+pub record ReadMeets (g c : ℕ) (text out : List ℕ) (r : Result ℕ Refusal) (last : List ℕ) : Type 0 where
+  pub number : shown r ≡ read_number g c text (length out)
+  pub lines : IfOk r (λ k. k ≡ line_count g c text)
   pub output : last ≡ read_output g c text out

@@ -1,8 +1,7 @@
 // The reader's steps over the value lines, one byte after the other.
-#![tactic(auto)]
+#![tactic(auto, unfolding(crate::specs::Laws::Scan::values_ended, crate::specs::Values::is_digit, lists::specs::Tests::within))]
 
 ghost use Rattle.std.specs.Prelude.{◌≡◌, ◌<◌};
-ghost use Rattle.table_scan.specs.Values.{is_digit};
 ghost use Rattle.table_scan.specs.Laws.Scan.{add_digit, first_byte, later_byte, next_byte, values_ended, whole_lines, value_so_far};
 
 // How far the reading of one value has come: not begun, some digits, or a byte that cannot stand there.
@@ -13,15 +12,6 @@ pub enum Progress {
     Malformed,
 }
 
-pub fn is_digit(b: u8) -> bool
-    ensures { result ≡ is_digit b }
-{
-    if b < b'0' {
-        return false;
-    }
-    b <= b'9'
-}
-
 // The digit d after digits that make n: a value has no leading zero, and fits 32 bits.
 fn add_digit(n: u32, d: u32) -> Progress
     requires { d < 10 }
@@ -30,7 +20,7 @@ fn add_digit(n: u32, d: u32) -> Progress
     if n == 0 {
         return Progress::Malformed;
     }
-    let m = (n as u64) * 10 + (d as u64);
+    let m = u64::from(n) * 10 + u64::from(d);
     if m <= 4_294_967_295 {
         Progress::Digits(m as u32)
     } else {
@@ -42,8 +32,8 @@ fn add_digit(n: u32, d: u32) -> Progress
 fn first_byte(b: u8) -> Progress
     ensures { result ≡ first_byte b }
 {
-    if is_digit(b) {
-        return Progress::Digits((b - b'0') as u32);
+    if b.is_ascii_digit() {
+        return Progress::Digits(u32::from(b - b'0'));
     }
     Progress::Malformed
 }
@@ -52,8 +42,8 @@ fn first_byte(b: u8) -> Progress
 fn later_byte(n: u32, b: u8, sep: u8) -> Progress
     ensures { result ≡ later_byte n b sep }
 {
-    if is_digit(b) {
-        return add_digit(n, (b - b'0') as u32);
+    if b.is_ascii_digit() {
+        return add_digit(n, u32::from(b - b'0'));
     }
     if b == sep {
         return Progress::Start;
@@ -75,10 +65,7 @@ pub fn next_byte(at: Progress, b: u8, sep: u8) -> Progress
 pub fn values_ended(b: u8) -> usize
     ensures { result ≡ values_ended b }
 {
-    if is_digit(b) {
-        return 0;
-    }
-    1
+    usize::from(!b.is_ascii_digit())
 }
 
 // Whether a text may end here, after k values.
@@ -86,19 +73,14 @@ pub fn whole_lines(w: usize, k: usize, at: Progress) -> bool
     requires { 0 < w }
     ensures { result ≡ whole_lines w k at }
 {
-    match at {
-        Progress::Start => k % w == 0,
-        Progress::Digits(_) => false,
-        Progress::Malformed => false,
-    }
+    matches!(at, Progress::Start) && k % w == 0
 }
 
 pub fn value_so_far(at: Progress) -> u32
     ensures { result ≡ value_so_far at }
 {
     match at {
-        Progress::Start => 0,
+        Progress::Start | Progress::Malformed => 0,
         Progress::Digits(n) => n,
-        Progress::Malformed => 0,
     }
 }

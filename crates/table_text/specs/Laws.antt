@@ -1,4 +1,1 @@
 pub mod TableTextLaws
-pub mod Laying
-pub mod LayingLaws
-pub mod Naming

@@ -1,11 +1,17 @@
-// How a readings table is written: decimal values, separators and the names line, laid as bytes into a buffer.
+// How a readings table is written, byte after byte: decimal values, separators and the names line.
 #![tactic(auto)]
 
-ghost use Rattle.std.specs.Prelude.{◌≡◌, ◌+◌, ◌*◌, ◌<◌, ◌≤◌, length};
+ghost use Rattle.std.specs.Prelude.{◌≡◌, ◌+◌, ◌*◌, ◌<◌, ◌≤◌, ◌++◌, length};
+ghost use Rattle.arrayvec.specs.ArrayVec.{array_vec_len};
 ghost use Rattle.table_text.specs.TableText.{decimal, separator_after, printed, name, names_line};
-ghost use Rattle.table_text.specs.Laws.Laying.{Put, Room};
+
+use arrayvec::ArrayVec;
+
+// A text as it is written: a names line has at most 79 bytes, what program `wheel` prints at most 320.
+pub type Text = ArrayVec<u8, 320>;
 
 // The byte after place i of a line of w places, the places counted on through all lines.
+#[tactic(auto, unfolding(crate::specs::TableText::separator_after))]
 pub fn separator_after(w: usize, i: usize) -> u8
     requires { (0 < w) × (i < 18446744073709551615) }
     ensures { result ≡ separator_after w i }
@@ -16,64 +22,53 @@ pub fn separator_after(w: usize, i: usize) -> u8
     b','
 }
 
-// Lays the digits of n into buf from i on, and returns the place after them.
-pub fn put_decimal(n: u64, buf: &mut [u8], i: usize) -> usize
-    requires { Room buf.old i (decimal n) }
-    ensures { Put buf.old i (decimal n) result buf.new }
+// Writes the digits of n.
+fn push_decimal(n: u64, text: &mut Text)
+    requires { array_vec_len text.old + length (decimal n) ≤ 320 }
+    ensures { text.new.items ≡ text.old.items ++ decimal n }
 {
-    if n < 10 {
-        buf[i] = (48 + n) as u8;
-        return i + 1;
+    if 10 <= n {
+        push_decimal(n / 10, text);
     }
-    let end = put_decimal(n / 10, buf, i);
-    buf[end] = (48 + n % 10) as u8;
-    end + 1
+    text.push(b'0' + (n % 10) as u8);
 }
 
-// Lays the name of place j, E1 to EG and then R1 to RC, from i on, and returns the place after it.
-// The bound on j is no limit of the table: it keeps the number of the name within 64 bits.
-fn put_name(g: usize, j: usize, buf: &mut [u8], i: usize) -> usize
-    requires { (j < 1000) × Room buf.old i (name g j) }
-    ensures { Put buf.old i (name g j) result buf.new }
+// Writes the name of place j, E1 to EG and then R1 to RC.
+// The bound on j is no limit of the table: it keeps the number of the name within 32 bits.
+fn push_name(g: u32, j: u32, text: &mut Text)
+    requires { (j < 1000) × (array_vec_len text.old + length (name g j) ≤ 320) }
+    ensures { text.new.items ≡ text.old.items ++ name g j }
 {
     if j < g {
-        buf[i] = b'E';
-        return put_decimal((j + 1) as u64, buf, i + 1);
+        text.push(b'E');
+        push_decimal(u64::from(j + 1), text);
+    } else {
+        text.push(b'R');
+        push_decimal(u64::from(j - g + 1), text);
     }
-    buf[i] = b'R';
-    put_decimal((j - g + 1) as u64, buf, i + 1)
 }
 
-// Lays the names line at the start of buf, and returns its length.
-pub fn put_names(g: usize, c: usize, buf: &mut [u8]) -> usize
-    requires { (g ≤ 8) × ((c ≤ 16) × Room buf.old 0 (names_line g c)) }
-    ensures { Put buf.old 0 (names_line g c) result buf.new }
+// The names line: the longest has 79 bytes.
+pub fn names_line(g: u32, c: u32) -> Text
+    requires { (g ≤ 8) × (c ≤ 16) }
+    ensures { result.items ≡ names_line g c }
 {
     let w = g + c;
-    let mut i: usize = 0;
-    let mut j: usize = 0;
-    while j < w {
-        let end = put_name(g, j, buf, i);
-        buf[end] = separator_after(w, j);
-        i = end + 1;
-        j += 1;
+    let mut line = ArrayVec::new();
+    for j in 0..w {
+        push_name(g, j, &mut line);
+        line.push(separator_after(w as usize, j as usize));
     }
-    i
+    line
 }
 
-// Lays one line of values from i on, and returns the place after it. No value with its separator has more than 21 bytes.
-pub fn put_line(values: &[u64], buf: &mut [u8], i: usize) -> usize
-    requires { i + 21 * length values.now ≤ length buf.old }
-    ensures { Put buf.old i (printed (length values.now) 0 values.now) result buf.new }
+// Writes one line of values. No value with its separator has more than 21 bytes.
+pub fn push_line(values: &[u64], text: &mut Text)
+    requires { array_vec_len text.old + 21 * length values.now ≤ 320 }
+    ensures { text.new.items ≡ text.old.items ++ printed (length values.now) 0 values.now }
 {
-    let w = values.len();
-    let mut at = i;
-    let mut j: usize = 0;
-    while j < w {
-        let end = put_decimal(values[j], buf, at);
-        buf[end] = separator_after(w, j);
-        at = end + 1;
-        j += 1;
+    for (j, &value) in values.iter().enumerate() {
+        push_decimal(value, text);
+        text.push(separator_after(values.len(), j));
     }
-    at
 }

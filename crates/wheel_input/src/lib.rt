@@ -5,22 +5,16 @@ ghost use Rattle.std.specs.Prelude.{◌≡◌, length};
 ghost use Rattle.wheel_rules.specs.Display.{space};
 ghost use Rattle.wheel_input.specs.Laws.Input.{InputRead};
 
-use table::Read;
+use refusal::Refusal;
 
 // Reads the table of agreement A. A text past 64 KiB has a malformed later line; a names line that differs comes first.
-pub fn read(text: &[u8], values: &mut [u32]) -> Read
+pub fn read(text: &[u8], values: &mut [u32]) -> Result<usize, Refusal>
     requires { length values.old ≡ space }
     ensures { InputRead text.now result values.new }
 {
     let read = table::read_table(1, 2, text, values);
-    if text.len() <= 65_536 {
+    if text.len() <= 65_536 || read == Err(Refusal::WrongNames) {
         return read;
     }
-    let Read::Refused(number) = read else {
-        return Read::Refused(15);
-    };
-    if number == 14 {
-        return Read::Refused(14);
-    }
-    Read::Refused(15)
+    Err(Refusal::WrongLine)
 }

@@ -7,6 +7,10 @@ ghost use Rattle.wheeling_rules.specs.Wheeling.{numbers_in, ByRule, opening_in, 
 ghost use Rattle.check_meter_bytes.specs.DayOnBytes.{ByteDay};
 ghost use Rattle.record_places.specs.RecordSize.{record_bytes};
 
+use check_meter::Meter;
+use opening_refusal::Asked;
+use refusal::Refusal;
+
 const RECORD_BYTES: usize = record_places::RECORD_BYTES;
 
 // A day's list, and its output of two numbers: the meter to use, and the count.
@@ -24,8 +28,8 @@ fn block_on_inputs(bytes: &mut [u8], entry: &[u32], exit: &[u32], output: &mut [
 {
     let mut out = [0u64; 537];
     let n = wheeling_lists::room(output, 537);
-    let number = block::block_on(bytes, entry, exit, &mut out[..n]);
-    wheeling_lists::give(number, &out, n, output)
+    let outcome = block::block_on(bytes, entry, exit, &mut out[..n]);
+    wheeling_lists::give(outcome, &out, n, output)
 }
 
 #[unsafe(no_mangle)]
@@ -47,19 +51,19 @@ pub extern "C" fn wheeling_open(
         let n = wheeling_lists::read_input(generator_list, &mut agreed);
         let mut pairs = [0u32; 257];
         let m = wheeling_lists::read_input(pair_list, &mut pairs);
-        return opening::opening_on(
+        let asked = Asked {
             generators,
             consumers,
             rate,
             cycle,
             gone,
-            switch_month,
-            &agreed[..n],
-            &pairs[..m],
-            record,
-        );
+            switch: switch_month,
+            generator_list: &agreed[..n],
+            pair_list: &pairs[..m],
+        };
+        return refusal::shown(opening::opening_on(asked, record));
     }
-    2
+    Refusal::WrongSize.number()
 }
 
 #[unsafe(no_mangle)]
@@ -71,9 +75,9 @@ pub extern "C" fn wheeling_schedule(record: &mut [u8], kw_list: &[u8], rank_list
         let n = wheeling_lists::read_input(kw_list, &mut kw);
         let mut ranks = [0u32; 129];
         let m = wheeling_lists::read_input(rank_list, &mut ranks);
-        return schedule::schedule_on(record, &kw[..n], &ranks[..m]);
+        return refusal::shown(schedule::schedule_on(record, &kw[..n], &ranks[..m]));
     }
-    1
+    Refusal::NotSound.number()
 }
 
 #[unsafe(no_mangle)]
@@ -92,7 +96,7 @@ pub extern "C" fn wheeling_block(
         let m = wheeling_lists::read_input(exit_list, &mut exit);
         return block_on_inputs(record, &entry[..n], &exit[..m], output);
     }
-    1
+    Refusal::NotSound.number()
 }
 
 #[unsafe(no_mangle)]
@@ -102,10 +106,10 @@ pub extern "C" fn wheeling_close(record: &mut [u8], output: &mut [u8]) -> u32
     if record.len() == RECORD_BYTES {
         let mut out = [0u64; 185];
         let n = wheeling_lists::room(output, 185);
-        let number = closing::close_on(record, &mut out[..n]);
-        return wheeling_lists::give(number, &out, n, output);
+        let outcome = closing::close_on(record, &mut out[..n]);
+        return wheeling_lists::give(outcome, &out, n, output);
     }
-    1
+    Refusal::NotSound.number()
 }
 
 #[unsafe(no_mangle)]
@@ -117,17 +121,25 @@ pub extern "C" fn wheeling_day(
 ) -> u32
     ensures { ByteDay (numbers_in 4 main_list.now) (numbers_in 4 check_list.now) tolerance output.old result output.new }
 {
-    if (main_list.len() == DAY_LIST_BYTES)
-        & (check_list.len() == DAY_LIST_BYTES)
-        & (output.len() == DAY_OUTPUT_BYTES)
-    {
-        let mut main = [0u32; 96];
-        codec::read4(main_list, &mut main);
-        let mut check = [0u32; 96];
-        codec::read4(check_list, &mut check);
-        let both = check_meter::compare(&main, &check, tolerance);
-        let out = [lists::only_if(both.check, 1), lists::wide(both.apart)];
-        return wheeling_lists::give(both.number, &out, 2, output);
+    let fits = main_list.len() == DAY_LIST_BYTES
+        && check_list.len() == DAY_LIST_BYTES
+        && output.len() == DAY_OUTPUT_BYTES;
+    if !fits {
+        return Refusal::WrongSize.number();
     }
-    2
+    let mut main = [0u32; 96];
+    codec::read(main_list, &mut main);
+    let mut check = [0u32; 96];
+    codec::read(check_list, &mut check);
+    match check_meter::compare(&main, &check, tolerance) {
+        Ok(both) => {
+            let meter = match both.meter {
+                Meter::Main => 0,
+                Meter::Check => 1,
+            };
+            codec::write8(&[meter, u64::from(both.apart)], output);
+            0
+        }
+        Err(refusal) => refusal.number(),
+    }
 }

@@ -2,8 +2,11 @@
 #![tactic(auto)]
 
 ghost use Rattle.std.specs.Prelude.{◌≡◌, ◌*◌, ◌≤◌, length, take};
+ghost use Rattle.refusal.specs.Numbers.{shown};
 ghost use Rattle.wheeling_rules.specs.Wheeling.{numbers_in};
 ghost use Rattle.wheeling_rules.specs.Laws.BytesRead.{Taken, Room, Written};
+
+use refusal::Refusal;
 
 // Reads the numbers of an input into the front of `out`, and returns how many there are. Bytes that are no whole count of numbers, or
 // too many for `out`, count as all of `out`: it has more places than any agreement takes, so the call refuses them as a wrong length.
@@ -12,11 +15,9 @@ pub fn read_input(bytes: &[u8], out: &mut [u32]) -> usize
     ensures { Taken (numbers_in 4 bytes.now) (length out.old) result out.new }
 {
     let n = bytes.len() / 4;
-    if bytes.len() % 4 == 0 {
-        if n < out.len() {
-            codec::read4(bytes, &mut out[..n]);
-            return n;
-        }
+    if bytes.len() % 4 == 0 && n < out.len() {
+        codec::read(bytes, &mut out[..n]);
+        return n;
     }
     out.len()
 }
@@ -27,22 +28,23 @@ pub fn room(bytes: &[u8], most: usize) -> usize
     ensures { Room bytes.now most result }
 {
     let n = bytes.len() / 8;
-    if bytes.len() % 8 == 0 {
-        if n < most {
-            return n;
-        }
+    if bytes.len() % 8 == 0 && n < most {
+        return n;
     }
     most
 }
 
-// Writes the output of an accepted call, the first n numbers of `out`; returns the call's number.
-pub fn give(refusal: u32, out: &[u64], n: usize, output: &mut [u8]) -> u32
-    requires { (n ≤ length out.now) × (refusal ≡ 0 → length output.old ≡ 8 * n) }
-    ensures { Written refusal (take n out.now) output.old result output.new }
+// Writes the output of an accepted call, the first n numbers of `out`; returns the number on the display.
+#[tactic(auto, using(refusal::specs::Laws::NumbersLaws::number_not_0, wheeling_rules::specs::Laws::BytesReadLaws::written_accepted, wheeling_rules::specs::Laws::BytesReadLaws::written_refused))]
+pub fn give(outcome: Result<(), Refusal>, out: &[u64], n: usize, output: &mut [u8]) -> u32
+    requires { (n ≤ length out.now) × (shown outcome ≡ 0 → length output.old ≡ 8 * n) }
+    ensures { Written (shown outcome) (take n out.now) output.old result output.new }
 {
-    if refusal == 0 {
-        codec::write8(&out[..n], output);
-        return 0;
+    match outcome {
+        Ok(()) => {
+            codec::write8(&out[..n], output);
+            0
+        }
+        Err(refusal) => refusal.number(),
     }
-    refusal
 }

@@ -1,5 +1,5 @@
 -- The loop of `agreed_lists::any_outside`: what lasts from turn to turn, and what falls.
-use Prim.Native.Nat.{◌+◌, ◌-◌}
+use Prim.Native.Nat.{◌+◌}
 use mathlib.Core.Bool.{not}
 use lib.ListN.{get_or}
 use Rattle.lists.specs.Tests.{within}
@@ -8,6 +8,3 @@ use Rattle.agreed_lists.proofs.any_outside.Given as goal
 
 abbrev pub invariant-loop-k : goal.invariant-loop-k
 invariant-loop-k l = Looking l.count (λ j. not (within l.low l.high (get_or l.list (l.from + j) 0))) l.k l.found
-
-abbrev pub decreases-loop-k : goal.decreases-loop-k
-decreases-loop-k l = l.count - l.k

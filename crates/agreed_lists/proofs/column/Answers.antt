@@ -1,18 +1,16 @@
 -- `agreed_lists::column` meets its contract: after g turns the first g places are read, and the others are 0. Assumes nothing.
-use Prim.Native.Nat.{◌-◌, ◌+◌, ◌*◌}
 use mathlib.Core.Logic.{inl}
 use mathlib.Core.Path.{sym}
-use lib.ListN.{get_or}
 use borrow.Author.Rules.{rules}
 use Rattle.lists.specs.Laws.PairsLaws.{cell_in, cell_out}
-use Rattle.agreement_rules.specs.Laws.AgreedReadingLaws.{Reading, read_start, read_step, read_done}
+use Rattle.agreement_rules.specs.Laws.AgreedReadingLaws.{read_start, read_step, read_done}
 use Rattle.agreed_lists.proofs.column.Goals as goal
 
 pub loop-g-init : goal.loop-g-init
 loop-g-init c = read_start (search rules) (search rules)
 
 pub loop-g-preserved : goal.loop-g-preserved
-loop-g-preserved c = read_step c.loop-g.invariant (search rules) c.wide.ensures
+loop-g-preserved c = read_step c.loop-g.invariant (search rules) c.from.ensures
 
 pub returns : goal.returns
 returns c = let a = c.args in

@@ -1,8 +1,7 @@
 -- `agreed_lists::spread` meets its contract: after g turns the first g rows are put, and the others are 0. Assumes nothing.
-use Prim.Native.Nat.{◌-◌}
 use native.Mathlib.Omega.{arith}
 use borrow.Author.Rules.{rules}
-use Rattle.agreement_rules.specs.Laws.AgreedReadingLaws.{Spreading, spread_start, spread_step, spread_length, spread_done, row_at}
+use Rattle.agreement_rules.specs.Laws.AgreedReadingLaws.{spread_start, spread_step, spread_length, spread_done, row_at}
 use Rattle.agreed_lists.proofs.spread.Goals as goal
 
 pub loop-g-init : goal.loop-g-init

@@ -1,5 +1,5 @@
 -- What the code tests is what the rules refuse. Assumes nothing.
-use Rattle.std.specs.Prelude.{ℕ, zero, suc, ◌+◌, ◌*◌, ◌≤◌, ◌<◌, ◌≡◌, Bool, true, false, ◌&&◌, ◌||◌, List, [], ◌∷◌, eqb, leb, length, get_or, take, drop, if◌then◌else◌}
+use Rattle.std.specs.Prelude.{ℕ, zero, suc, ◌+◌, ◌*◌, ◌≤◌, ◌<◌, ◌≡◌, Bool, true, false, ◌&&◌, ◌||◌, List, [], ◌∷◌, eqb, leb, length, get_or, take, drop}
 use Rattle.std.proofs.Math.Path.{refl}
 use Rattle.std.proofs.Common.{sym, ap, ◌∙◌, arith, ltb-true, ltb-false, leb-true, leb-false, lt-ltb, le-ltb, le-leb, eqb-true, get_or-drop}
 use Rattle.std.proofs.Math.Bool.{not}
@@ -18,6 +18,7 @@ use Rattle.record.specs.declared.Agreed.{Agreed}
 use Rattle.record.specs.declared.Record.{Record}
 use Rattle.agreement_rules.specs.Opening.{asked, sizes_fit, terms_fit, kind_of, installed_of, contracted_of, link_of, rate_of_loss, opening_refusal}
 use Rattle.agreement_rules.specs.Schedule.{new_kw, new_rank, schedule_refusal}
+use Rattle.agreement_rules.specs.Laws.AgreedReading.{RowsAt}
 use Rattle.agreement_rules.specs.Laws.AgreedReadingLaws.{cell_take}
 use Rattle.agreement_rules.specs.Laws.AgreedRefusals.{outside, column_over, Fitting, off_link, over_at, over_capacity, refusal_on}
 
@@ -101,55 +102,41 @@ module _ (G C rate cycle gone switch : ℕ) (generators pairs : List ℕ) where
       )
       (some_or G _ _ ∙ some_same G _ _ (λ g l. some_or C _ _))
 
-  -- the number of an opening whose lists have the right lengths
-  pub opening_number : {n₃ n₄ n₅ n₆ n₁₉ : ℕ} {kind installed contracted link loss fit late : Bool} → sizes_fit G C generators pairs ≡ true →
-      kind ≡ column_over generators G 0 last_kind →
-      installed ≡ column_over generators G 1 most_capacity →
-      contracted ≡ column_over generators G 2 most_capacity →
-      link ≡ outside pairs 0 (G * C) 0 1 →
-      loss ≡ outside pairs (G * C) (G * C) 0 most_loss →
-      fit ≡ terms_fit rate cycle gone →
-      late ≡ ltb most_switch switch →
-      n₁₉ ≡ (if late then 19 else 0) →
-      n₆ ≡ (if not fit then 6 else n₁₉) →
-      n₅ ≡ (if link || loss then 5 else n₆) →
-      n₄ ≡ (if installed || contracted then 4 else n₅) →
-      n₃ ≡ (if kind then 3 else n₄) →
-      n₃ ≡ opening_refusal (asked G C rate cycle gone switch generators pairs)
-  unfolding opening_refusal kind_of installed_of contracted_of link_of rate_of_loss first_of sizes_fit terms_fit column_over
-  opening_number e k i j l s t w n₁₉ n₆ n₅ n₄ n₃ =
-      n₃ ∙ rw (n₄, n₅, n₆, n₁₉, k, i, j, l, s, t, w, some_or G (λ g. ltb most_capacity (cell G 3 generators g 1)) (λ g. ltb most_capacity (cell G 3 generators g 2)), pairs_bad, e) refl
-
-  pub opening_misfit : sizes_fit G C generators pairs ≡ false → opening_refusal (asked G C rate cycle gone switch generators pairs) ≡ 2
-  unfolding opening_refusal first_of sizes_fit
-  opening_misfit e = rw e refl
+  -- the tests as the code makes them, in their order
+  pub opening_tested : opening_refusal (asked G C rate cycle gone switch generators pairs) ≡
+      first_of
+      ((2, not (sizes_fit G C generators pairs)) ∷
+      (3, column_over generators G 0 last_kind) ∷
+      (4, column_over generators G 1 most_capacity || column_over generators G 2 most_capacity) ∷
+      (5, outside pairs 0 (G * C) 0 1 || outside pairs (G * C) (G * C) 0 most_loss) ∷
+      (6, not (terms_fit rate cycle gone)) ∷
+      (19, ltb most_switch switch) ∷
+      [])
+  unfolding opening_refusal kind_of installed_of contracted_of link_of rate_of_loss column_over
+  opening_tested =
+      rw (some_or G (λ g. ltb most_capacity (cell G 3 generators g 1)) (λ g. ltb most_capacity (cell G 3 generators g 2)), pairs_bad) refl
 
 -- ---- schedule
 
-pub schedule_sizes : (n m : ℕ) (kws ranks : List ℕ) → eqb (length kws) (n * m) && eqb (length ranks) (n * m) ≡ true → (length kws ≡ n * m) × (length ranks ≡ n * m)
-schedule_sizes n m kws ranks e =
-    let x = eqb (length kws) (n * m) in
-    let y = eqb (length ranks) (n * m) in
-    (eqb-true _ _ (and_left x y e), eqb-true _ _ (and_right x y e))
-
 module _ (a : Agreed) (link : List ℕ) (n m : ℕ) (kws ranks : List ℕ) where
-  pub schedule_number : {n₇ n₈ n₉ : ℕ} {unlinked over rank : Bool} → eqb (length kws) (n * m) && eqb (length ranks) (n * m) ≡ true →
-      unlinked ≡ off_link link n m kws →
-      over ≡ over_capacity a n m kws →
-      rank ≡ outside ranks 0 (n * m) 1 most_rank →
-      n₉ ≡ (if rank then 9 else 0) →
-      n₈ ≡ (if over then 8 else n₉) →
-      n₇ ≡ (if unlinked then 7 else n₈) →
-      n₇ ≡ refusal_on a link n m kws ranks
-  unfolding refusal_on first_of outside
-  schedule_number e u o k n₉ n₈ n₇ = n₇ ∙ rw (n₈, n₉, u, o, k, ranks_out, e) refl
-    where
-      ranks_out : outside ranks 0 (n * m) 1 most_rank ≡ some n (λ g. some m (λ c. not (within 1 most_rank (cell n m ranks g c))))
-      ranks_out = some_rows n m _ ∙ some_same n _ _ (λ g l. some_same m _ _ (λ c k. rw (cell_in n m ranks g c l k) (ap (λ (i : ℕ). not (within 1 most_rank (get_or ranks i 0))) (omega arith))))
+  abbrev sized : Bool
+  sized = eqb (length kws) (n * m) && eqb (length ranks) (n * m)
 
-  pub schedule_misfit : eqb (length kws) (n * m) && eqb (length ranks) (n * m) ≡ false → refusal_on a link n m kws ranks ≡ 2
-  unfolding refusal_on first_of
-  schedule_misfit e = rw e refl
+  -- what the tests ask that are made where the lists have the length that is read
+  pub schedule_rows : sized ≡ true → n ≤ most_generators → m ≤ most_consumers → RowsAt kws 0 n m × (length ranks ≡ n * m)
+  schedule_rows e h k =
+      let x = eqb (length kws) (n * m) in
+      let y = eqb (length ranks) (n * m) in
+      (record { fits = omega (arith, eqb-true _ _ (and_left x y e)); few_rows = h; few = k }, eqb-true _ _ (and_right x y e))
+
+  -- the tests as the code makes them, in their order
+  pub schedule_tested : refusal_on a link n m kws ranks ≡
+      first_of ((2, not sized) ∷ (7, off_link link n m kws) ∷ (8, over_capacity a n m kws) ∷ (9, outside ranks 0 (n * m) 1 most_rank) ∷ [])
+  unfolding refusal_on outside
+  schedule_tested = rw ranks_out refl
+    where
+      ranks_out : some n (λ g. some m (λ c. not (within 1 most_rank (cell n m ranks g c)))) ≡ some (n * m) (λ k. not (within 1 most_rank (get_or ranks (0 + k) 0)))
+      ranks_out = sym (some_rows n m _ ∙ some_same n _ _ (λ g l. some_same m _ _ (λ c k. rw (cell_in n m ranks g c l k) (ap (λ (i : ℕ). not (within 1 most_rank (get_or ranks i 0))) (omega arith)))))
 
 pub refusal_figures : (r : Record) (kws ranks : List ℕ) → refusal_on r.agreed r.links.link r.terms.generators r.terms.consumers kws ranks ≡ schedule_refusal kws ranks (figures r)
 unfolding refusal_on schedule_refusal new_kw new_rank figures plan_of off_link over_capacity

@@ -1,56 +1,51 @@
--- The bank's own calls, steps 1, 2 and 4 of a closing, as the code goes through them. Assumes nothing.
-use Rattle.std.specs.Prelude.{ℕ, ◌+◌, ◌-◌, ◌*◌, ◌≤◌, ◌<◌, ◌≡◌, refl, Bool, true, false, List, length, get_or, replicate}
+-- The bank's own calls, steps 1, 2 and 4 of a closing, by the cases of their tests. Assumes nothing.
+use Rattle.std.specs.Prelude.{ℕ, ◌+◌, ◌-◌, ◌*◌, ◌<◌, ◌≡◌, refl, true, false, Bool, List, length, get_or, replicate, if◌then◌else◌}
 use Rattle.std.proofs.Math.Path.{sym, fun_ext}
-use Rattle.std.proofs.Common.{ap, ◌∙◌, ⊎_elim, eq-zero-or-pos, arith, le-leb}
-use Rattle.std.proofs.lemmas.Bool.{lt-leb}
+use Rattle.std.proofs.Common.{ap, ◌∙◌, ⊎_elim, eq-zero-or-pos, arith, leb-true}
+use Rattle.std.proofs.lemmas.List.{length-replicate}
 use Rattle.std.proofs.Math.ListN.{get_or-eq_default}
 use Rattle.lists.specs.Tables.{table}
-use Rattle.lists.specs.Laws.TablesLaws.{is_table, fill_done}
+use Rattle.lists.specs.Laws.TablesLaws.{length_filled, is_table, filled, filled_all, zeros_at}
+use Rattle.lists.specs.Laws.TestsLaws.{and_left}
 use Rattle.lists.specs.Pairs.{place}
-use Rattle.lists.specs.Laws.PairsLaws.{place_in, place_out, place_table}
-use Rattle.energy.specs.Limits.{most_generators, most_rate, most_figure}
+use Rattle.lists.specs.Laws.PairsLaws.{place_in, place_out}
 use Rattle.order_rules.specs.Settle.{given, kept, unmet}
-use Rattle.order_rules.specs.Laws.SettleLaws.{settle_has}
-use Rattle.order.specs.Laws.KeptOrder.{turns_of}
 use Rattle.order.specs.Laws.KeptStock.{column, ColumnSettled}
-use Rattle.bank.specs.Laws.CreditLaws.{Crediting, limits_kept}
-use Rattle.bank.specs.declared.Bank.{Bank}
-use Rattle.bank.specs.declared.Credit.{Credit}
-use Rattle.bank.specs.declared.Draw.{Draw}
-use Rattle.bank.specs.declared.Lapse.{Lapse}
-use Rattle.bank.specs.Laws.BankSteps.{credit_of, creditable, credit_answer, draw_of, draw_answer, lapse_of}
+use Rattle.bank.specs.Laws.CreditLaws.{charge_at, credit_at, creditable, Crediting}
+use Rattle.bank.specs.Laws.BankSteps.{Credited, Drew}
 
--- the balances as a rule by generator
-pub balances : (xs : List ℕ) → length xs ≡ 8 → xs ≡ table 8 (place 8 xs)
-balances xs z = is_table 0 8 (place 8 xs) xs z (λ g l. sym (place_in 8 xs g l))
-
-zeros : replicate {A = ℕ} 8 0 ≡ table 8 (λ g. 0)
-unfolding table
-zeros = refl
+-- a list of balances as a rule by balance
+balances : (w : ℕ) (xs : List ℕ) → length xs ≡ w → xs ≡ table w (place w xs)
+balances w xs z = is_table 0 w (place w xs) xs z (λ g l. sym (place_in w xs g l))
 
 -- ---- step 1
 
-pub credit_done : (old pending : List ℕ) (rate : ℕ) {g : ℕ} {balance charge : List ℕ} → Crediting 8 old pending rate g balance charge → 8 ≤ g →
-    ◌≡◌ {A = Credit} (record { bank = record { balance = balance }; charge = charge }) (credit_of (record { balance = old }) pending rate)
-unfolding credit_of
-credit_done old pending rate h l =
-    let e = fill_done h.balance_is l in
-    let f = fill_done h.charge_is l in
-    λ i. record { bank = record { balance = e i }; charge = f i }
+module _ {w : ℕ} {old : List ℕ} {count : ℕ} {pending : List ℕ} {rate : ℕ} where
+  pub credit_beyond : creditable w old count pending rate ≡ false → Credited w old count pending rate old (replicate w 0)
+  credit_beyond t = record { balance_is = rw t; charge_is = rw t }
 
--- the call's answer by the two cases of its test
-module _ (x : Bank) (pending : List ℕ) (rate : ℕ) where
-  pub credit_within : creditable x pending rate ≡ true → credit_answer x pending rate ≡ credit_of x pending rate
-  unfolding credit_answer
-  credit_within t = rw t
+  pub credit_done : {s : ℕ} {balance charge : List ℕ} → Crediting w old count pending rate s balance charge → s ≡ count → Credited w old count pending rate balance charge
+  credit_done h e = record { balance_is = rw h.within (rw e at h.balance_is.is); charge_is = rw h.within (rw e at h.charge_is.is) }
 
-  pub credit_beyond : creditable x pending rate ≡ false → credit_answer x pending rate ≡ record { bank = x; charge = replicate 8 0 }
-  unfolding credit_answer
-  credit_beyond t = rw t (λ i. record { bank = x; charge = sym zeros i })
+  pub credit_within : {balance charge : List ℕ} → creditable w old count pending rate ≡ true → Credited w old count pending rate balance charge →
+      (balance ≡ filled old count (credit_at w pending rate old)) × (charge ≡ filled (replicate w 0) count (charge_at w pending rate))
+  credit_within t h = (rw t at h.balance_is, rw t at h.charge_is)
 
-  pub creditable_so : rate ≤ most_rate → ((g : ℕ) → g < 8 → place 8 x.balance g + place 8 pending g ≤ most_figure) → creditable x pending rate ≡ true
+  pub credit_size : {balance charge : List ℕ} → length old ≡ w → Credited w old count pending rate balance charge → length balance ≡ w
   unfolding creditable
-  creditable_so h k = limits_kept 8 x.balance pending rate 8 h k
+  credit_size {balance} z h = go (creditable w old count pending rate) refl
+    where
+      go : (t : Bool) → creditable w old count pending rate ≡ t → length balance ≡ w
+      go true t =
+          ap length (credit_within t h).0 ∙ length_filled old count (credit_at w pending rate old) (omega (arith, z, leb-true count w (and_left _ _ t))) ∙ z
+      go false t = ap length (rw t at h.balance_is) ∙ z
+
+-- all of a bank's balances within the limits
+pub credit_all : {w : ℕ} {old pending : List ℕ} {rate : ℕ} {balance charge : List ℕ} → length old ≡ w → creditable w old w pending rate ≡ true →
+    Credited w old w pending rate balance charge → (balance ≡ table w (credit_at w pending rate old)) × (charge ≡ table w (charge_at w pending rate))
+credit_all {w} {old} {pending} {rate} z t h =
+    let made = credit_within t h in
+    (made.0 ∙ filled_all old (credit_at w pending rate old) w z, made.1 ∙ filled_all (replicate w 0) (charge_at w pending rate) w (length-replicate w 0))
 
 -- ---- step 2, for one consumer
 
@@ -69,40 +64,27 @@ column_place xs z = fun_ext at
         (λ (l : 0 < 8 - g). rw (row g) (sym (place_in 8 xs g (omega arith))))
         (eq-zero-or-pos (8 - g))
 
-pub draw_is : (x : Bank) (gs : List ℕ) (want : ℕ) {b t : List ℕ} {left : ℕ} → length x.balance ≡ 8 → ColumnSettled gs 1 0 want x.balance b t left →
-    ◌≡◌ {A = Draw} (record { bank = record { balance = b }; drawn = t; left = left }) (draw_of x gs want)
-unfolding draw_of
-draw_is x gs want {b} {t} size h =
+pub draw_done : (gs : List ℕ) (want : ℕ) {old balance drawn : List ℕ} {left : ℕ} → length old ≡ 8 → ColumnSettled gs 1 0 want old balance drawn left → Drew gs want old balance drawn left
+draw_done gs want {old} {balance} {drawn} size h =
     let after = h.size ∙ size in
-    let has = column_place x.balance size in
-    let balance = balances b after ∙ ap (table 8) (sym (column_place b after) ∙ h.kept_is ∙ (λ i. kept gs (has i) want)) in
-    let drawn = is_table 0 8 _ t h.room (λ g l. h.taken_is g l ∙ (λ i. given gs (has i) want g)) in
-    let left = h.left_is ∙ (λ i. unmet gs (has i) want) in
-    λ i. record { bank = record { balance = balance i }; drawn = drawn i; left = left i }
+    let has = column_place old size in
+    record {
+      size = after;
+      leaves = sym (column_place balance after) ∙ h.kept_is ∙ (λ i. kept gs (has i) want);
+      gives = is_table 0 8 _ drawn h.room (λ g l. h.taken_is g l ∙ (λ i. given gs (has i) want g));
+      lacks = h.left_is ∙ (λ i. unmet gs (has i) want);
+    }
 
--- the balances after it, as a rule by generator
-pub draw_leaves : (x : Bank) (gs : List ℕ) (want : ℕ) → place 8 (draw_of x gs want).bank.balance ≡ kept gs (place 8 x.balance) want
-unfolding draw_of kept
-draw_leaves x gs want =
-    place_table 8 _ (λ g l. omega (arith, settle_has gs (place 8 x.balance) want g, place_out 8 x.balance g l))
+-- ---- step 4: what stays and what lapses, as rules by balance
 
--- the call's answer by the two cases of its test
-module _ (x : Bank) (n : ℕ) (keys : List ℕ) (want : ℕ) where
-  pub draw_within : n ≤ most_generators → draw_answer x n keys want ≡ draw_of x (turns_of keys n) want
-  unfolding draw_answer
-  draw_within l = rw (le-leb n most_generators l)
+zeros : (w : ℕ) → replicate {A = ℕ} w 0 ≡ table w (λ g. 0)
+zeros w = is_table 0 w (λ g. 0) (replicate w 0) (length-replicate w 0) (λ g l. zeros_at w g)
 
-  pub draw_beyond : most_generators < n → draw_answer x n keys want ≡ record { bank = x; drawn = replicate 8 0; left = want }
-  unfolding draw_answer
-  draw_beyond l = rw (lt-leb n most_generators l) (λ i. record { bank = x; drawn = sym zeros i; left = want })
+module _ (w : ℕ) (old : List ℕ) (z : length old ≡ w) where
+  pub lapse_leaves : (due : Bool) → (if due then replicate w 0 else old) ≡ table w (λ g. if due then 0 else place w old g)
+  lapse_leaves true = zeros w
+  lapse_leaves false = balances w old z
 
--- ---- step 4
-
-module _ (x : Bank) (due : Bool) (size : length x.balance ≡ 8) where
-  pub lapse_all : due ≡ true → ◌≡◌ {A = Lapse} (record { bank = record { balance = replicate 8 0 }; lapsed = x.balance }) (lapse_of x due)
-  unfolding lapse_of
-  lapse_all t = rw t (λ i. record { bank = record { balance = zeros i }; lapsed = balances x.balance size i })
-
-  pub lapse_none : due ≡ false → ◌≡◌ {A = Lapse} (record { bank = x; lapsed = replicate 8 0 }) (lapse_of x due)
-  unfolding lapse_of
-  lapse_none t = rw t (λ i. record { bank = record { balance = balances x.balance size i }; lapsed = zeros i })
+  pub lapse_takes : (due : Bool) → (if due then old else replicate w 0) ≡ table w (λ g. if due then place w old g else 0)
+  lapse_takes true = balances w old z
+  lapse_takes false = zeros w

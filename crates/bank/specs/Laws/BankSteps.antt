@@ -1,44 +1,21 @@
--- Steps 1, 2 and 4 of a closing on arrays, as the code has them. Assumes nothing.
-use Rattle.std.specs.Prelude.{ℕ, Bool, List, leb, if◌then◌else◌}
+-- Steps 1 and 2 of a closing on a bank's balances, as the code has them. Assumes nothing.
+use Rattle.std.specs.Prelude.{ℕ, ◌≡◌, List, length, replicate, if◌then◌else◌}
 use Rattle.lists.specs.Tables.{table}
+use Rattle.lists.specs.Laws.TablesLaws.{filled}
 use Rattle.lists.specs.Pairs.{place}
-use Rattle.energy.specs.Limits.{most_generators}
 use Rattle.order_rules.specs.Settle.{given, kept, unmet}
-use Rattle.order.specs.Laws.KeptOrder.{turns_of}
-use Rattle.bank.specs.Laws.CreditLaws.{charge_at, credit_at, within_limits}
-use Rattle.bank.specs.declared.Bank.{Bank}
-use Rattle.bank.specs.declared.Credit.{Credit}
-use Rattle.bank.specs.declared.Draw.{Draw}
-use Rattle.bank.specs.declared.Lapse.{Lapse}
+use Rattle.bank.specs.Laws.CreditLaws.{charge_at, credit_at, creditable}
 
--- Step 1
-unfoldable pub credit_of : Bank → List ℕ → ℕ → Credit
-credit_of x pending rate =
-    record {
-      bank = record { balance = table 8 (credit_at 8 pending rate x.balance) };
-      charge = table 8 (charge_at 8 pending rate);
-    }
+-- Step 1 for the first `count` of w balances: all of them after it, and the charge on each. Beyond the bank's limits they are as they were, and
+-- nothing is charged.
+pub record Credited (w : ℕ) (old : List ℕ) (count : ℕ) (pending : List ℕ) (rate : ℕ) (balance charge : List ℕ) : Type 0 where
+  pub balance_is : balance ≡ (if creditable w old count pending rate then filled old count (credit_at w pending rate old) else old)
+  pub charge_is : charge ≡ (if creditable w old count pending rate then filled (replicate w 0) count (charge_at w pending rate) else replicate w 0)
 
--- the bank's limits for it: the rate is in range, and no balance with what is pending comes over 2 x 10^15
-unfoldable pub creditable : Bank → List ℕ → ℕ → Bool
-creditable x pending rate = within_limits 8 x.balance 8 pending rate
-
--- what the call answers: beyond the limits the bank as it was, and nothing charged
-unfoldable pub credit_answer : Bank → List ℕ → ℕ → Credit
-credit_answer x pending rate = if creditable x pending rate then credit_of x pending rate else record { bank = x; charge = table 8 (λ g. 0) }
-
--- Step 2 for one consumer, by its suppliers in their order
-unfoldable pub draw_of : Bank → List ℕ → ℕ → Draw
-draw_of x gs want =
-    let has = place 8 x.balance in
-    record { bank = record { balance = table 8 (kept gs has want) }; drawn = table 8 (given gs has want); left = unmet gs has want }
-
--- what the call answers, for n suppliers whose order keys hold: beyond the limit nothing is drawn, and all is lacking
-unfoldable pub draw_answer : Bank → ℕ → List ℕ → ℕ → Draw
-draw_answer x n keys want = if leb n most_generators then draw_of x (turns_of keys n) want else record { bank = x; drawn = table 8 (λ g. 0); left = want }
-
--- Step 4: where a lapse is due every balance lapses
-unfoldable pub lapse_of : Bank → Bool → Lapse
-lapse_of x due =
-    let has = place 8 x.balance in
-    record { bank = record { balance = table 8 (λ g. if due then 0 else has g) }; lapsed = table 8 (λ g. if due then has g else 0) }
+-- Step 2 for one consumer, on one balance a generator: it drew on the generators gs, in their order. The balances after it, what it drew, and what
+-- it lacks.
+pub record Drew (gs : List ℕ) (want : ℕ) (old balance drawn : List ℕ) (left : ℕ) : Type 0 where
+  pub size : length balance ≡ 8
+  pub leaves : place 8 balance ≡ kept gs (place 8 old) want
+  pub gives : drawn ≡ table 8 (given gs (place 8 old) want)
+  pub lacks : left ≡ unmet gs (place 8 old) want

@@ -1,7 +1,10 @@
 -- `block::block_on` meets its contract: an accepted block is settled, and a refused one changes nothing. Assumes nothing.
-use borrow.Author.Rules.{rules}
-use Rattle.block.specs.Laws.BlockReady.{block_refused}
+use Rattle.std.proofs.lemmas.Result.{err_from_is_err_and}
+use Rattle.refusal.specs.Laws.NumbersLaws.{number_not_0}
+use Rattle.record_layout.specs.Laws.OnBytesLaws.{on_refused}
 use Rattle.block.proofs.block_on.Goals as goal
 
-pub returns : goal.returns
-returns c = block_refused _ _ _ _ c.refusal_on-number.ensures c.if-number-eq0.false
+pub returns-in_err-check_on : goal.returns-in_err-check_on
+returns-in_err-check_on c =
+    let p = err_from_is_err_and c.from_residual.result c.from_residual.ensures.1 in
+    rw (p.1, p.2) (on_refused _ _ _ c.in_err-check_on.ensures (number_not_0 _))

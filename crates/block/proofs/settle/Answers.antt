@@ -1,5 +1,4 @@
 -- `block::settle` meets its contract: the steps of an accepted block make up the call. Assumes nothing.
-use borrow.Author.Rules.{rules}
 use Rattle.block.specs.Laws.BlockReady.{ready, ranked, exits, sized, delivered_sized, settled, block_accepted}
 use Rattle.block.proofs.settle.Goals as goal
 

@@ -14,7 +14,7 @@ use Rattle.record.specs.declared.Terms.{Terms}
 use Rattle.record.specs.declared.Counts.{Counts}
 use Rattle.record_layout.specs.Laws.RecordHead.{HeadRead}
 use Rattle.record_layout.specs.OnBytes.{record_in, CalledOn, plan_in, book_in}
-use Rattle.record_layout.specs.Laws.OnBytesLaws.{on_accepted, on_refused}
+use Rattle.record_layout.specs.Laws.OnBytesLaws.{on_accepted}
 use Rattle.block_rules.specs.Block.{after_block, entry_of, exit_of, block_rule}
 use Rattle.block_rules.proofs.BlockAccepted.{facts, enterable, generators_few, consumers_few, entry_size, exit_size, output_size, orderable_here, deliverable}
 use Rattle.block_delivery.specs.Laws.DeliveryLent.{entries_in, Ready}
@@ -88,6 +88,3 @@ module _ (s entry exit lent : List ℕ) where
       out ≡ block_output (plan_in s) (entries_in s entry) (exits_in s exit) → CalledOn (block_rule entry exit (length lent)) s lent 0 s' out
   unfolding block_rule entry_of exit_of figures
   block_accepted z e o = on_accepted _ s lent refl z e o
-
-  pub block_refused : {n : ℕ} → n ≡ number_on (block_rule entry exit (length lent)) (record_in s) → (n ≡ 0 → ⊥) → CalledOn (block_rule entry exit (length lent)) s lent n s lent
-  block_refused e not-0 = on_refused _ s lent e not-0

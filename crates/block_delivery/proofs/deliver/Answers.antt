@@ -5,11 +5,8 @@ use borrow.Author.Rules.{rules}
 use Rattle.lists.specs.Laws.TablesLaws.{length_table}
 use Rattle.lists.specs.Laws.PairsLaws.{length_pairs}
 use Rattle.output_lists.specs.Laws.StretchPlaces.{lent_from}
-use Rattle.block_delivery.specs.Laws.DeliveryLists.{limited, all_consumers, rows, exact_here, delivered_in, same_size}
+use Rattle.block_delivery.specs.Laws.DeliveryLists.{limited, rows, exact_here, delivered_in}
 use Rattle.block_delivery.proofs.deliver.Goals as goal
-
-pub share_rows-requires : goal.share_rows-requires
-share_rows-requires c = (all_consumers c.requires.0, (search rules, search rules))
 
 pub fill_loss-requires : goal.fill_loss-requires
 fill_loss-requires c =
@@ -19,7 +16,7 @@ fill_loss-requires c =
 pub fill_gap-requires : goal.fill_gap-requires
 fill_gap-requires c =
     let r = c.requires.0 in
-    (limited r, (search rules, (exact_here r.deliverable r.n_is r.m_is c.share_rows.ensures.1 c.fill_loss.ensures.1, omega (arith, c.fill_gap-arg-1))))
+    (limited r, (search rules, (exact_here r.deliverable r.n_is r.m_is c.share_rows.ensures.1 c.fill_loss.ensures.1, omega arith)))
 
 pub returns : goal.returns
 returns c =
@@ -30,6 +27,3 @@ returns c =
     (lent_from size (omega arith) c.fill_loss.ensures.0 (length_pairs _ _ _))
     (lent_from (3 * size) (omega arith) c.fill_delivered.ensures (length_pairs _ _ _))
     (lent_from (4 * size) (omega arith) c.fill_gap.ensures (length_pairs _ _ _))
-
-pub shape_of-out : goal.shape_of-out
-shape_of-out c = same_size c.requires.0.n_is c.requires.0.m_is c.requires.1 (returns c)

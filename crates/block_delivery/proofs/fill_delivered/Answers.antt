@@ -1,9 +1,6 @@
 -- `block_delivery::fill_delivered` puts row after row. Assumes nothing.
-use Prim.Native.Nat.{◌+◌, ◌≤◌}
-use native.Mathlib.Omega.{arith}
 use borrow.Author.Rules.{rules}
-use lib.ListN.{length}
-use Rattle.output_lists.specs.Laws.RowsWritten.{rows_start, rows_put, rows_length, rows_done, row_room}
+use Rattle.output_lists.specs.Laws.RowsWritten.{rows_start, rows_put, rows_done}
 use Rattle.block_delivery.proofs.fill_delivered.Goals as goal
 
 pub loop-g-preserved : goal.loop-g-preserved
@@ -11,24 +8,6 @@ loop-g-preserved c = rows_put c.loop-g.invariant (search rules) c.delivered_row.
 
 pub loop-g-init : goal.loop-g-init
 loop-g-init c = rows_start (search rules)
-
-pub overflow_add-end : goal.overflow_add-end
-overflow_add-end c =
-    let room : let l = c.loop-g in let m = c.args.m in (l.at + m ≤ 128) × (l.at + m ≤ length l.out) = row_room c.loop-g.invariant (search rules) (search rules) (search rules) in
-    omega (arith, room)
-
-pub offset_bounds-out-at : goal.offset_bounds-out-at
-offset_bounds-out-at c =
-    let room : let l = c.loop-g in let m = c.args.m in (l.at + m ≤ 128) × (l.at + m ≤ length l.out) = row_room c.loop-g.invariant (search rules) (search rules) (search rules) in
-    omega (arith, room)
-
-pub slice_bounds-delivered_row-end : goal.slice_bounds-delivered_row-end
-slice_bounds-delivered_row-end c =
-    let room : let l = c.loop-g in let m = c.args.m in (l.at + m ≤ 128) × (l.at + m ≤ length l.out) = row_room c.loop-g.invariant (search rules) (search rules) (search rules) in
-    omega (arith, room)
-
-pub shape_of-out : goal.shape_of-out
-shape_of-out c = rows_length c.loop-g.invariant
 
 pub returns : goal.returns
 returns c = rows_done c.loop-g.invariant (search rules)

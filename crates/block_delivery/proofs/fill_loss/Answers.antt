@@ -1,12 +1,12 @@
 -- `block_delivery::fill_loss` takes the losses off row after row. Assumes nothing.
-use Prim.Native.Nat.{ℕ, ◌+◌, ◌≤◌}
+use Prim.Native.Nat.{ℕ}
 use mathlib.Core.Path.{◌≡◌, ap, ◌∙◌}
 use mathlib.Core.List.{List, []}
 use native.Mathlib.Omega.{arith}
 use borrow.Author.Rules.{rules}
-use lib.ListN.{length, get_or}
+use lib.ListN.{get_or}
 use Rattle.lists.specs.Laws.TablesLaws.{filled_later, filled_before, fill_start, fill_step}
-use Rattle.output_lists.specs.Laws.RowsWritten.{rows_start, rows_put, rows_length, rows_done, row_room}
+use Rattle.output_lists.specs.Laws.RowsWritten.{rows_start, rows_put, rows_done}
 use Rattle.block_delivery.proofs.fill_loss.Goals as goal
 
 pub loss_row-requires : goal.loss_row-requires
@@ -28,21 +28,3 @@ returns c =
 
 pub loop-g-init : goal.loop-g-init
 loop-g-init c = (rows_start (search rules), fill_start (search rules))
-
-pub overflow_add-end : goal.overflow_add-end
-overflow_add-end c =
-    let room : let l = c.loop-g in let m = c.args.m in (l.at + m ≤ 128) × (l.at + m ≤ length l.out) = row_room c.loop-g.invariant.0 (search rules) (search rules) (search rules) in
-    omega (arith, room)
-
-pub offset_bounds-out-at : goal.offset_bounds-out-at
-offset_bounds-out-at c =
-    let room : let l = c.loop-g in let m = c.args.m in (l.at + m ≤ 128) × (l.at + m ≤ length l.out) = row_room c.loop-g.invariant.0 (search rules) (search rules) (search rules) in
-    omega (arith, room)
-
-pub slice_bounds-loss_row-end : goal.slice_bounds-loss_row-end
-slice_bounds-loss_row-end c =
-    let room : let l = c.loop-g in let m = c.args.m in (l.at + m ≤ 128) × (l.at + m ≤ length l.out) = row_room c.loop-g.invariant.0 (search rules) (search rules) (search rules) in
-    omega (arith, room)
-
-pub shape_of-out : goal.shape_of-out
-shape_of-out c = rows_length c.loop-g.invariant.0

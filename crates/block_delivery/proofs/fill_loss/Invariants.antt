@@ -1,5 +1,4 @@
 -- The loop of `block_delivery::fill_loss`: what lasts from turn to turn, and what falls.
-use Prim.Native.Nat.{◌-◌}
 use mathlib.Core.List.{[]}
 use lib.ListN.{get_or}
 use Rattle.lists.specs.Laws.TablesLaws.{Filling, filled}
@@ -13,6 +12,3 @@ abbrev pub invariant-loop-g : goal.invariant-loop-g
 invariant-loop-g l =
     WritingRows l.n l.m (λ i j. loss_on (figure l.initial.parts i j) ((plan_in l.s).loss i j)) l.initial.out l.g l.at l.out ×
     Filling 8 (λ i. filled (get_or l.initial.parts i []) l.m (λ j. after_loss (figure l.initial.parts i j) ((plan_in l.s).loss i j))) l.initial.parts l.g l.parts
-
-abbrev pub decreases-loop-g : goal.decreases-loop-g
-decreases-loop-g l = l.n - l.g

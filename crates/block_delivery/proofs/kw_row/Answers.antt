@@ -3,9 +3,6 @@ use borrow.Author.Rules.{rules}
 use Rattle.lists.specs.Laws.TablesLaws.{fill_start, fill_step, fill_done}
 use Rattle.block_delivery.proofs.kw_row.Goals as goal
 
-pub kw_at-requires : goal.kw_at-requires
-kw_at-requires c = (search rules, (search rules, (search rules, c.requires.1.1 c.loop-c.c)))
-
 pub loop-c-preserved : goal.loop-c-preserved
 loop-c-preserved c = fill_step c.loop-c.invariant (search rules) c.kw_at.ensures
 

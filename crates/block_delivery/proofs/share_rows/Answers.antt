@@ -48,7 +48,7 @@ loop-g-preserved c =
     let counted_is : c.counted_at-counts.result ≡ counted plan generator (entries generator) = counted_here plan entries c.requires.0.deliverable generator c.kw_row-row.ensures reading_is c.counted_at-counts.ensures in
     let ready = c.requires.0 in
     let v = c.loop-g.invariant in (
-      fill_step v.0 (search rules) (c.wide.ensures ∙ rw (counted_is, reading_is)),
+      fill_step v.0 (search rules) (c.from.ensures ∙ rw (counted_is, reading_is)),
       fill_step v.1 (omega (arith, ready.n_is, ready.deliverable.G_high)) (parts_here plan entries ready.deliverable generator c.kw_row-row.ensures counted_is c.share.ensures),
     )
 
@@ -59,9 +59,3 @@ returns c =
 
 pub loop-g-init : goal.loop-g-init
 loop-g-init c = (fill_start (search rules), fill_start (search rules))
-
-pub bounds-out-g : goal.bounds-out-g
-bounds-out-g c = omega (arith, fill_length c.loop-g.invariant.0)
-
-pub shape_of-out : goal.shape_of-out
-shape_of-out c = let v = c.loop-g.invariant.0 in fill_length v ∙ sym v.size

@@ -1,5 +1,5 @@
 -- The loop of `block_figures::scheduled_kw`: what lasts from turn to turn, and what falls.
-use Prim.Native.Nat.{◌-◌, ◌≤◌}
+use Prim.Native.Nat.{◌≤◌}
 use mathlib.Core.Path.{◌≡◌}
 use Rattle.lists.specs.Pairs.{place}
 use Rattle.lists.specs.Sums as sums
@@ -7,6 +7,3 @@ use Rattle.block_figures.proofs.scheduled_kw.Given as goal
 
 abbrev pub invariant-loop-c : goal.invariant-loop-c
 invariant-loop-c l = (l.c ≤ 16) × (l.sum ≡ sums.sum l.c (place 16 l.row))
-
-abbrev pub decreases-loop-c : goal.decreases-loop-c
-decreases-loop-c l = 16 - l.c

@@ -11,7 +11,7 @@ pub loop-i-init : goal.loop-i-init
 loop-i-init c = look_start
 
 pub loop-i-preserved : goal.loop-i-preserved
-loop-i-preserved c = look_step c.loop-i.invariant (search rules) (ap (ltb most_reading) c.wide.ensures)
+loop-i-preserved c = look_step c.loop-i.invariant (search rules) (ap (ltb most_reading) c.from.ensures)
 
 pub returns : goal.returns
 unfolding over_limit

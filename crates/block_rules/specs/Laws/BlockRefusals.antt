@@ -1,6 +1,6 @@
 -- The refusals of a block as the code tests them. Assumes nothing.
-use Rattle.std.specs.Prelude.{ℕ, ◌≡◌, Bool, true, false, ◌&&◌, ◌||◌, List, leb, ltb, length, get_or, if◌then◌else◌}
-use Rattle.std.proofs.Common.{sym, ◌∙◌, eqb-true}
+use Rattle.std.specs.Prelude.{ℕ, ◌≡◌, refl, Bool, true, false, ◌&&◌, ◌||◌, not, List, [], ◌∷◌, leb, ltb, length, get_or}
+use Rattle.std.proofs.Common.{sym, eqb-true}
 use Rattle.std.proofs.Math.Dec.{eqb}
 use Rattle.lists.specs.Tests.{some}
 use Rattle.lists.specs.Laws.TestsLaws.{some_same, and_left, and_right}
@@ -28,24 +28,21 @@ module _ (n m month blocks : ℕ) (entry exit : List ℕ) (size : ℕ) where
   abbrev sized : Bool
   sized = eqb (length entry) n && eqb (length exit) m && eqb size (block_length n m)
 
-  pub number_misfit : sized ≡ false → block_number entry exit n m month blocks size ≡ 2
-  unfolding block_number first_of
-  number_misfit e = rw e
+  -- the tests as the code makes them, in their order
+  abbrev tested : ℕ
+  tested = first_of ((2, not sized) ∷ (10, over_limit entry || over_limit exit) ∷ (11, leb most_month_blocks month) ∷ (12, leb most_unit_blocks blocks) ∷ [])
 
-  -- the tests as the code makes them, from the last to the first
-  pub number_fit : {over over' : Bool} {unit-full month-full number : ℕ} → sized ≡ true →
-      over ≡ over_limit entry → over' ≡ over_limit exit →
-      unit-full ≡ (if leb most_unit_blocks blocks then 12 else 0) → month-full ≡ (if leb most_month_blocks month then 11 else unit-full) →
-      number ≡ (if over || over' then 10 else month-full) →
-      number ≡ block_number entry exit n m month blocks size
+  pub number_tested : block_number entry exit n m month blocks size ≡ tested
   unfolding block_number first_of
-  number_fit e o p u w x =
-      let y = eqb (length entry) n in
-      let z = eqb (length exit) m in
-      let yz = and_left (y && z) (eqb size (block_length n m)) e in
-      let entry-over = o ∙ over_places entry n (eqb-true _ _ (and_left y z yz)) in
-      let exit-over = p ∙ over_places exit m (eqb-true _ _ (and_right y z yz)) in
-      x ∙ rw (e, entry-over, exit-over, w, u)
+  number_tested = go sized refl
+    where
+      go : (t : Bool) → sized ≡ t → block_number entry exit n m month blocks size ≡ tested
+      go true e =
+          let y = eqb (length entry) n in
+          let z = eqb (length exit) m in
+          let yz = and_left (y && z) (eqb size (block_length n m)) e in
+          rw (e, over_places entry n (eqb-true _ _ (and_left y z yz)), over_places exit m (eqb-true _ _ (and_right y z yz)))
+      go false e = rw e
 
 -- on a stored record, its terms and counts being read apart
 pub record_refusal : (r : Record) {t : Terms} {n : Counts} (entry exit : List ℕ) (size : ℕ) → t ≡ r.terms → n ≡ r.counts → sound (figures r) ≡ true →

@@ -3,7 +3,6 @@ use Prim.Native.Nat.{ℕ}
 use mathlib.Core.Path.{◌≡◌, ap, ◌∙◌}
 use mathlib.Core.List.{List}
 use native.Mathlib.Omega.{arith}
-use borrow.Author.Rules.{rules}
 use Rattle.block_totals.specs.Laws.BlockAfterLaws.{bytes_after, totals_raisable, classes_raisable, counts_low, entry_sized, exit_sized, lists_stand}
 use Rattle.block_totals.specs.Laws.BlockTotals.{generators_raised, consumers_raised, counts_raised, hours_raised}
 use Rattle.block_totals.specs.Laws.BlockTotalsLaws.{generators_behind}
@@ -40,4 +39,4 @@ returns c =
     let raised : let a = c.args in words_in c.put_at-2.new.s ≡ counts_raised a.counts (consumers_raised a.n a.m a.exit.now a.out.now (generators_raised a.n a.m a.entry.now a.out.now (words_in a.s.now))) = c.put_at-2.ensures.0 ∙ rw (c.put_at.ensures.0, c.raise_consumers.ensures, c.raise_generators.ensures) in
     let a = c.args in
     let hours = ap (λ (ws : List ℕ). hours_raised a.n a.m a.out.now ws a.counts.monthblocks) raised in
-    bytes_after c.requires _ (c.raise_hours.auto.s ∙ c.put_at-2.ensures.1) (λ i. omega (arith, c.slice_known-6-1.given i)) (c.raise_hours.ensures ∙ hours)
+    bytes_after c.requires _ (c.raise_hours.auto.s ∙ c.put_at-2.ensures.1) (λ i. omega (arith, c.type_inv.s i)) (c.raise_hours.ensures ∙ hours)

@@ -1,59 +1,53 @@
 -- `block_totals::raise_generators` meets its contract: each list stands behind those that are raised before it. Assumes nothing.
-use native.Mathlib.Omega.{arith}
-use borrow.Author.Rules.{rules}
-use Rattle.record_runs.specs.Laws.RaiseLaws.{next_list, fewer}
-use Rattle.block_totals.specs.Laws.BlockTotalsLaws.{generators_all}
+use Rattle.std.proofs.Common.{true, rules, arith, ◌*◌}
+use Rattle.record_runs.specs.Laws.RaiseLaws.{next_list, fewer, raised_by}
+use Rattle.block_totals.specs.Laws.BlockTotalsLaws.{generators_all, row_stays}
 use Rattle.block_totals.proofs.raise_generators.Goals as goal
 
-pub raise_readings-requires : goal.raise_readings-requires
-raise_readings-requires c = (fewer _ _ (omega (arith, c.requires.1.1.generators_few)) (omega arith) c.requires.0, omega (arith, c.requires.1.0))
+pub raise-requires-2-clause-placed : goal.raise-requires-2-clause-placed
+raise-requires-2-clause-placed c =
+    let few = c.requires.1.1.generators_few in
+    fewer _ _ few (omega arith) (next_list 8 8 few (omega arith) c.requires.0 c.raise.ensures.is)
 
-pub raise_numbers-requires : goal.raise_numbers-requires
-raise_numbers-requires c =
-    let lists = c.requires.1.1 in
-    let few = lists.generators_few in
-    let two = next_list 8 8 few (omega arith) c.requires.0 c.raise_readings.ensures in
-    (fewer _ _ few (omega arith) two, (omega (arith, lists.size), lists.moderate))
+pub raise-requires-3-clause-placed : goal.raise-requires-3-clause-placed
+raise-requires-3-clause-placed c =
+    let few = c.requires.1.1.generators_few in
+    let two = next_list 8 8 few (omega arith) c.requires.0 c.raise.ensures.is in
+    fewer _ _ few (omega arith) (next_list 8 8 few (omega arith) two c.raise-2.ensures.is)
 
-pub raise_rows-requires : goal.raise_rows-requires
-raise_rows-requires c =
-    let lists = c.requires.1.1 in
-    let few = lists.generators_few in
-    let two = next_list 8 8 few (omega arith) c.requires.0 c.raise_readings.ensures in
-    let three = next_list 8 8 few (omega arith) two c.raise_numbers.ensures in
-    (fewer _ _ few (omega arith) three, (omega (arith, lists.size), (lists.consumers_few, lists.moderate)))
+pub raise-requires-4-clause-placed : goal.raise-requires-4-clause-placed
+raise-requires-4-clause-placed c =
+    let few = c.requires.1.1.generators_few in
+    let two = next_list 8 8 few (omega arith) c.requires.0 c.raise.ensures.is in
+    let three = next_list 8 8 few (omega arith) two c.raise-2.ensures.is in
+    fewer _ _ few (omega arith) (next_list 8 8 few (omega arith) three c.raise-3.ensures.is)
 
-pub raise_rows-requires-2 : goal.raise_rows-requires-2
-raise_rows-requires-2 c =
-    let lists = c.requires.1.1 in
-    let few = lists.generators_few in
-    let two = next_list 8 8 few (omega arith) c.requires.0 c.raise_readings.ensures in
-    let three = next_list 8 8 few (omega arith) two c.raise_numbers.ensures in
-    let four = next_list 8 8 few (omega arith) three c.raise_rows.ensures in
-    (fewer _ _ few (omega arith) four, (omega (arith, lists.size), (lists.consumers_few, lists.moderate)))
+pub raise-requires-5-clause-placed : goal.raise-requires-5-clause-placed
+raise-requires-5-clause-placed c =
+    let few = c.requires.1.1.generators_few in
+    let two = next_list 8 8 few (omega arith) c.requires.0 c.raise.ensures.is in
+    let three = next_list 8 8 few (omega arith) two c.raise-2.ensures.is in
+    let four = next_list 8 8 few (omega arith) three c.raise-3.ensures.is in
+    fewer _ _ few (omega arith) (next_list 8 8 few (omega arith) four c.raise-4.ensures.is)
 
-pub raise_by_kind-requires : goal.raise_by_kind-requires
-raise_by_kind-requires c =
-    let lists = c.requires.1.1 in
-    let few = lists.generators_few in
-    let two = next_list 8 8 few (omega arith) c.requires.0 c.raise_readings.ensures in
-    let three = next_list 8 8 few (omega arith) two c.raise_numbers.ensures in
-    let four = next_list 8 8 few (omega arith) three c.raise_rows.ensures in
-    let five = next_list 8 8 few (omega arith) four c.raise_rows-2.ensures in
-    (fewer _ _ few (omega arith) five, (omega arith, (omega (arith, lists.size), (few, (lists.consumers_few, lists.moderate)))))
-
-pub raise_by_kind-requires-2 : goal.raise_by_kind-requires-2
-raise_by_kind-requires-2 c =
-    let lists = c.requires.1.1 in
-    let few = lists.generators_few in
-    let two = next_list 8 8 few (omega arith) c.requires.0 c.raise_readings.ensures in
-    let three = next_list 8 8 few (omega arith) two c.raise_numbers.ensures in
-    let four = next_list 8 8 few (omega arith) three c.raise_rows.ensures in
-    let five = next_list 8 8 few (omega arith) four c.raise_rows-2.ensures in
-    let six = next_list 40 8 (omega arith) (omega arith) five c.raise_by_kind.ensures in
-    (fewer _ _ few (omega arith) six, (omega arith, (omega (arith, lists.size), (few, (lists.consumers_few, lists.moderate)))))
+pub raise-requires-6-clause-placed : goal.raise-requires-6-clause-placed
+raise-requires-6-clause-placed c =
+    let few = c.requires.1.1.generators_few in
+    let two = next_list 8 8 few (omega arith) c.requires.0 c.raise.ensures.is in
+    let three = next_list 8 8 few (omega arith) two c.raise-2.ensures.is in
+    let four = next_list 8 8 few (omega arith) three c.raise-3.ensures.is in
+    let five = next_list 8 8 few (omega arith) four c.raise-4.ensures.is in
+    fewer _ _ few (omega arith) (next_list 40 8 (omega arith) (omega arith) five c.raise-5.ensures.is)
 
 pub returns : goal.returns
 returns c =
     let a = c.args in
-    generators_all a.n a.m a.entry.now a.out.now a.s.now c.raise_readings.ensures c.raise_numbers.ensures c.raise_rows.ensures c.raise_rows-2.ensures c.raise_by_kind.ensures c.raise_by_kind-2.ensures
+    let few = c.requires.1.1.generators_few in
+    generators_all a.n a.m a.entry.now a.out.now a.s.now
+    (raised_by _ c.raise.ensures (λ i r l gives. search rules))
+    (raised_by _ c.raise-2.ensures (λ i r l gives. search rules))
+    (raised_by _ c.raise-3.ensures (λ i r l gives. search rules))
+    (raised_by _ c.raise-4.ensures (λ i r l gives. search rules))
+    (raised_by _ c.raise-5.ensures (λ i r l gives. rw (← (c.kinds-kinds.ensures i (omega arith))) (search rules)))
+    (raised_by _ c.raise-6.ensures
+    (λ i r l gives. rw (row_stays true a.m a.out.now (2 * (a.n * a.m)) i c.raise-5.ensures.is (omega arith) (omega arith), ← (c.kinds-kinds.ensures i (omega arith))) (search rules)))

@@ -30,6 +30,7 @@ use Rattle.record.specs.declared.Record.{Record}
 use Rattle.record.specs.declared.Counts.{Counts}
 use Rattle.record.specs.declared.Switch.{Switch}
 use Rattle.record.specs.declared.Stocks.{Stocks}
+use Rattle.hours.specs.Laws.Classes.{class_numbers}
 use Rattle.record_layout.specs.Laws.NumbersRaised.{from, raised, set_run, raised_other, list_raised}
 use Rattle.record_layout.specs.Laws.LayoutLaws.{bytes_of_record}
 use Rattle.record_layout.specs.Laws.FigurePlaces.{kind_place, switch_places}
@@ -41,7 +42,7 @@ use Rattle.block_rules.proofs.BlockSettleable.{settleable}
 use Rattle.block_rules.proofs.BlockRoom.{output_moderate}
 use Rattle.record_layout.specs.OnBytes.{book_in, record_in}
 use Rattle.record_runs.specs.Laws.Raise.{row_sum, column_sum, Raisable}
-use Rattle.block_totals.specs.Laws.BlockTotals.{four_raised, five_raised, generators_raised, consumers_raised, counts_raised, class_numbers, stocks_raised, hours_raised, BlockLists, Settled}
+use Rattle.block_totals.specs.Laws.BlockTotals.{four_raised, five_raised, generators_raised, consumers_raised, counts_raised, stocks_raised, hours_raised, BlockLists, Settled}
 use Rattle.block_totals.specs.Laws.BlockTotalsLaws.{all_stay}
 use Rattle.block_totals.specs.Laws.BlockAdded.{row, column, lost, no_row, no_column, by_kind_lem, no_kind}
 use Rattle.record_places.specs.RecordSize.{record_numbers, record_bytes, words_in}

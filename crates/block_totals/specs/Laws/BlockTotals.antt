@@ -5,6 +5,7 @@ use Rattle.record.specs.Plan.{deemed_kind}
 use Rattle.record.specs.Hours.{slot_after, class_of_slot, hours_apply}
 use Rattle.record.specs.Laws.SoundLaws.{Facts}
 use Rattle.record.specs.declared.Counts.{Counts}
+use Rattle.hours.specs.Laws.Classes.{class_numbers}
 use Rattle.record_layout.specs.OnBytes.{book_in, record_in}
 use Rattle.record_layout.specs.Laws.NumbersRaised.{raised, from}
 use Rattle.record_runs.specs.Laws.Raise.{row_sum, column_sum, OutputLists}
@@ -52,10 +53,6 @@ unfoldable pub counts_raised : Counts → List ℕ → List ℕ
 counts_raised n ws = set (set ws unit_blocks_at (n.unitblocks + 1)) month_blocks_at (n.monthblocks + 1)
 
 -- ---- by hours
-
--- bank, pending and open of a class
-abbrev pub class_numbers : ℕ
-class_numbers = 32
 
 module _ (n m : ℕ) (out ws : List ℕ) where
   -- pending and open of the class whose bank starts at this place

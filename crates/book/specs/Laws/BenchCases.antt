@@ -1,29 +1,16 @@
 -- Document 01, "Bench cases": P1 to P10, every figure that the paper gives, P1 to P3 and P9 worked out again for document 02's F-3; and cases of
 -- document 02's F-2, F-3 and F-7, as one theorem on the rules. Assumes nothing.
-use Rattle.std.specs.Prelude.{ℕ, ◌+◌, true, false, ◌&&◌, List, [], ◌∷◌, ◌++◌, map, ◌≡◌, refl}
-use Rattle.lists.specs.Sums.{sum}
+use Rattle.std.specs.Prelude.{ℕ, ◌+◌, true, false, ◌&&◌, List, [], ◌∷◌, ◌++◌, map, ◌≡◌}
 use Rattle.lists.specs.Tables.{table}
-use Rattle.lists.specs.Tests.{all, some, within}
-use Rattle.lists.specs.Pairs.{place, cell, pairs, joined}
-use Rattle.lists.specs.Refusals.{first_of}
-use Rattle.energy.specs.Energy.{portion_up, loss_on}
-use Rattle.sharing.specs.Share.{part}
-use Rattle.order_rules.specs.Order.{span, insert, sort, only, ahead, in_order}
-use Rattle.order_rules.specs.Settle.{lower, settle, given, kept, unmet}
-use Rattle.record.specs.Plan.{deemed, scheduled, order, suppliers}
-use Rattle.block_rules.specs.Delivery.{counted_of, counted, unaccounted, part_of, loss_of, delivered, at_exit}
-use Rattle.block_rules.specs.Settlement.{set_off, after_set_off, underdrawn, shortfall, remainder, block_lists, block_output}
-use Rattle.record.specs.Hours.{classes, slot_after, class_of_slot, hours_apply, before_switch}
-use Rattle.record.specs.Book.{Book, no_injection, no_consumption, no_stocks}
-use Rattle.record.specs.Sound.{counts_sound, agreed_sound, pair_sound, generator_sound, consumer_sound, switch_sound, classes_sound, bank_total, pending_total, open_total, generator_hours, consumer_hours, sound}
-use Rattle.agreement_rules.specs.Opening.{Opening, kind_of, installed_of, contracted_of, link_of, rate_of_loss, sizes_fit, terms_fit, first_gone, opening_refusal, opened}
-use Rattle.agreement_rules.specs.Schedule.{new_kw, new_rank, schedule_refusal, after_schedule, schedule_rule}
-use Rattle.block_rules.specs.Block.{adds_to, generator_after_block, consumer_after_block, class_after_block, after_block, block_length, entry_of, exit_of, block_number, block_refusal, block_rule}
-use Rattle.closing_rules.specs.Drawing.{stock_at, drawn_at, missing_at}
-use Rattle.closing_rules.specs.Closing.{cycle_ends, lapse_due, sources_of, undivided, stocks_of, taken_up, charge_of, credited, serving, stock, want, drawn_of, bank_left, supplied_of, charge, drawn, supplied, bank_before_lapse, lapses, gone_after, lapsed, bank_after, generator_after_closing, consumer_after_closing, after_closing, closing_lists, closing_output, closing_length, closing_number, closing_refusal, closing_rule}
+use Rattle.block_rules.specs.Delivery.{part_of, loss_of, delivered}
+use Rattle.record.specs.Hours.{classes, hours_apply}
+use Rattle.record.specs.Book.{Book}
+use Rattle.record.specs.Sound.{sound}
+use Rattle.agreement_rules.specs.Opening.{Opening, opening_refusal, opened}
+use Rattle.closing_rules.specs.Closing.{bank_left, supplied_of}
 use Rattle.book.specs.AgreementA.{agreement_a, schedule_a}
-use Rattle.book.specs.BookCalls.{Call, schedule, block, closing, rule_of, next, book_after, BookAnswer, book_answers}
-use Rattle.book.specs.Laws.HoursCases.{switched, hourly, holding, open_added, to_off_peak, to_normal, to_peak, fifteen_each, peak_of_the_first, peak_or_normal, all_classes}
+use Rattle.book.specs.BookCalls.{Call, schedule, block, closing, book_after, BookAnswer, book_answers}
+use Rattle.book.specs.Laws.HoursCases.{switched, open_added, to_off_peak, to_normal, to_peak, fifteen_each, peak_of_the_first, peak_or_normal, all_classes}
 
 -- an accepted call with this output
 abbrev accepted : List ℕ → BookAnswer

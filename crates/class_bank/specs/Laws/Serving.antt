@@ -1,6 +1,6 @@
 -- Drawing for one consumer on balances that an array holds, and the laws by which its loops are proved. Assumes nothing.
-use Rattle.std.specs.Prelude.{ℕ, zero, suc, ◌+◌, ◌-◌, ◌%◌, ◌≤◌, ◌<◌, min, ◌≡◌, refl, Bool, true, false, List, [], ◌∷◌, ◌++◌, ◌⊎◌, ltb, eqb, length, get_or, set, if◌then◌else◌}
-use Rattle.std.proofs.Common.{sym, ap, ◌∙◌, inl, inr, arith, add-one, eqb-true, ltb-false, length-set, get_or-set_same, get_or-set_other}
+use Rattle.std.specs.Prelude.{ℕ, zero, suc, ◌+◌, ◌-◌, ◌%◌, ◌≤◌, ◌<◌, min, ◌≡◌, refl, Bool, true, false, List, [], ◌∷◌, ◌++◌, ltb, eqb, length, get_or, set, if◌then◌else◌}
+use Rattle.std.proofs.Common.{sym, ap, ◌∙◌, arith, add-one, eqb-true, ltb-false, length-set, get_or-set_same, get_or-set_other}
 use Rattle.std.proofs.Math.Path.{fun_ext}
 use Rattle.std.proofs.lemmas.Bool.{eqb-false}
 use Rattle.lists.specs.Tables.{table}
@@ -9,7 +9,7 @@ use Rattle.lists.specs.Laws.PairsLaws.{place_in}
 use Rattle.lists.specs.Laws.TablesLaws.{Filling, fill_start, fill_step, fill_here, fill_done}
 use Rattle.order_rules.specs.Settle.{Rest, lower, settle, kept, unmet}
 use Rattle.order_rules.specs.Laws.SettleLaws.{settle_twice, settle_nothing, settle_want}
-use Rattle.order.specs.Laws.KeptOrder.{turns_of}
+use Rattle.order.specs.Laws.KeptOrder.{upto, turns_in}
 use Rattle.record.specs.Hours.{classes, peak}
 use Rattle.closing_rules.specs.Drawing.{stock_at, missing_at}
 use Rattle.closing_rules.specs.Closing.{source, sources_of}
@@ -69,32 +69,34 @@ gave_both g k a b = record { size = b.size; is = λ rest. a.is (source g peak �
 
 -- ---- the generators of the keys, one after another
 
--- The invariant of the loop: the generators of the first i keys have not had their turn.
-pub record Going (k : ℕ) (gs : List ℕ) (want : ℕ) (has₀ a has : List ℕ) (left i : ℕ) : Type 0 where
-  pub few : i ≤ 8
+-- The invariant of the loop: the first i keys, the last of them first, have not had their turn.
+pub record Going (k : ℕ) (turns : List ℕ) (want : ℕ) (has₀ keys has : List ℕ) (left i : ℕ) : Type 0 where
   pub size : length has ≡ 24
-  pub is : settle (sources_of k gs) (place 24 has₀) want ≡ settle (sources_of k (turns_of a i)) (place 24 has) left
+  pub is : settle (sources_of k (turns_in turns)) (place 24 has₀) want ≡ settle (sources_of k (turns_in (upto keys i))) (place 24 has) left
 
-pub serve_start : {k n want : ℕ} {a has : List ℕ} → n ≤ 8 → length has ≡ 24 → Going k (turns_of a n) want has a has want n
-serve_start l z = record { few = l; size = z; is = refl }
+pub serve_start : {k want : ℕ} {turns keys has : List ℕ} → upto keys (length keys) ≡ turns → length has ≡ 24 → Going k turns want has keys has want (length keys)
+serve_start e z = record { size = z; is = rw e refl }
 
-pub serve_step : {k want i left last : ℕ} {gs has₀ a has has' : List ℕ} → Going k gs want has₀ a has left i → 0 < i →
-    GaveBoth (get_or a (i - 1) 0 % 8) k left has has' last → Going k gs want has₀ a has' last (i - 1)
-unfolding sources_of turns_of
+pub serve_step : {k want i left last : ℕ} {turns has₀ keys has has' : List ℕ} → Going k turns want has₀ keys has left i → 0 < i →
+    GaveBoth (get_or keys (i - 1) 0 % 8) k left has has' last → Going k turns want has₀ keys has' last (i - 1)
+unfolding sources_of upto
 serve_step {i = zero} h l t = absurd (omega arith)
-serve_step {k} {i = suc i} {a = a} h l t =
+serve_step {k} {i = suc i} {keys = keys} h l t =
     let e : suc i - 1 ≡ i = omega arith in
     let t' = rw e at t in
-    rw e (record { few = omega (arith, h.few); size = t.size; is = h.is ∙ t'.is (sources_of k (turns_of a i)) })
+    rw e (record { size = t.size; is = h.is ∙ t'.is (sources_of k (turns_in (upto keys i))) })
 
--- it ends when all have given, or nothing more is wanted
-pub serve_done : {k want left i : ℕ} {gs has₀ a has : List ℕ} → Going k gs want has₀ a has left i → (i ≡ 0) ⊎ (left ≡ 0) → Served k gs want has₀ has left
-unfolding sources_of turns_of settle kept unmet
-serve_done {k} {left = left} {i} {a = a} {has = has} h (inl e) =
-    let none : settle (sources_of k (turns_of a i)) (place 24 has) left ≡ record { has = place 24 has; want = left } = rw e in
-    record { size = h.size; left_is = sym (ap (λ (r : Rest). r.want) (h.is ∙ none)); has_is = sym (ap (λ (r : Rest). r.has) (h.is ∙ none)) }
-serve_done {k} {left = left} {i} {a = a} {has = has} h (inr e) =
-    let sources = sources_of k (turns_of a i) in
+-- it ends when all have given
+pub serve_all : {k want left i : ℕ} {turns has₀ keys has : List ℕ} → Going k turns want has₀ keys has left i → i ≤ 0 → Served k (turns_in turns) want has₀ has left
+unfolding sources_of upto settle kept unmet
+serve_all {i = suc i} h l = absurd (omega arith)
+serve_all {i = zero} h l = record { size = h.size; left_is = sym (ap (λ (r : Rest). r.want) h.is); has_is = sym (ap (λ (r : Rest). r.has) h.is) }
+
+-- or nothing more is wanted
+pub serve_enough : {k want left i : ℕ} {turns has₀ keys has : List ℕ} → Going k turns want has₀ keys has left i → left ≡ 0 → Served k (turns_in turns) want has₀ has left
+unfolding settle kept unmet
+serve_enough {k} {left = left} {i} {keys = keys} {has} h e =
+    let sources = sources_of k (turns_in (upto keys i)) in
     record {
       size = h.size;
       left_is = omega (arith, settle_want sources (place 24 has) left, ap (λ (r : Rest). r.want) h.is);
@@ -103,11 +105,12 @@ serve_done {k} {left = left} {i} {a = a} {has = has} h (inr e) =
 
 -- ---- one class after another
 
--- all three classes settled: balances and what is lacking, by turns
-pub record ServedAll (gs has want has' left : List ℕ) : Type 0 where
-  pub size : length has' ≡ 24
-  pub has_is : place 24 has' ≡ stock_at (λ k. sources_of k gs) (place 24 has) (place classes want) classes
-  pub left_is : left ≡ table classes (missing_at (λ k. sources_of k gs) (place 24 has) (place classes want))
+-- Step 2 for one consumer: the generators gs, in their order, settled all three classes. The balances after it, which are the stocks of a closing:
+-- generator g's energy of class k is number g * 3 + k. And what it lacks of each class.
+pub record ClassesDrew (gs want old balance left : List ℕ) : Type 0 where
+  pub size : length balance ≡ 24
+  pub leaves : place 24 balance ≡ stock_at (λ k. sources_of k gs) (place 24 old) (place classes want) classes
+  pub lacks : left ≡ table classes (missing_at (λ k. sources_of k gs) (place 24 old) (place classes want))
 
 -- The invariant of the loop: k classes are settled.
 pub record Settling (gs has₀ want has left : List ℕ) (k : ℕ) : Type 0 where
@@ -130,7 +133,7 @@ classes_step {gs} {want = want} {k = k} h l t =
       left_is = fill_step h.left_is l (t.left_is ∙ (λ i. unmet (sources_of k gs) (h.has_is i) (wanted i)));
     }
 
-pub classes_done : {gs has₀ want has left : List ℕ} {k : ℕ} → Settling gs has₀ want has left k → classes ≤ k → ServedAll gs has₀ want has left
+pub classes_done : {gs has₀ want has left : List ℕ} {k : ℕ} → Settling gs has₀ want has left k → classes ≤ k → ClassesDrew gs want has₀ has left
 classes_done {k = k} h l =
     let e : k ≡ classes = omega (arith, h.left_is.within) in
-    record { size = h.size; has_is = rw e at h.has_is; left_is = fill_done h.left_is l }
+    record { size = h.size; leaves = rw e at h.has_is; lacks = fill_done h.left_is l }

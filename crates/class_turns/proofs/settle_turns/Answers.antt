@@ -1,14 +1,13 @@
 -- `class_turns::settle_turns` meets its contract: t turns are settled. Assumes nothing.
-use Prim.Native.Nat.{◌-◌, ◌/◌, ◌%◌, ◌≤◌}
+use Prim.Native.Nat.{◌/◌, ◌%◌, ◌≤◌}
 use mathlib.Core.Path.{◌≡◌, ◌∙◌}
 use native.Mathlib.Omega.{arith}
 use borrow.Author.Rules.{rules}
 use Rattle.record.specs.Stored.{figures}
 use Rattle.record.specs.Laws.SoundLaws.{orderable}
 use Rattle.record_places.specs.RecordSize.{words_in}
-use Rattle.record_layout.specs.OnBytes.{book_in}
 use Rattle.closing_by_hours.specs.Laws.ClassesRead.{wanted_at, wanted_read}
-use Rattle.class_turns.specs.Laws.TurnsSettled.{TurnsSettled, turns_start, turns_step}
+use Rattle.class_turns.specs.Laws.TurnsSettled.{turns_start, turns_step}
 use Rattle.class_turns.proofs.settle_turns.Goals as goal
 
 pub loop-t-init : goal.loop-t-init
@@ -25,14 +24,14 @@ pub number_at-want-requires : goal.number_at-want-requires
 number_at-want-requires c = (c.requires.whole, search rules)
 
 pub serve-requires : goal.serve-requires
-serve-requires c = (c.suppliers_at-suppliers.ensures.1, (omega arith, c.loop-t.invariant.size))
+serve-requires c = omega arith
 
 pub loop-t-preserved : goal.loop-t-preserved
 unfolding figures wanted_at
 loop-t-preserved c =
     let p = c.requires in
     let t = c.loop-t.t in
-    turns_step _ (t / 3) (t % 3) (omega arith) (omega arith) c.loop-t-test.true c.loop-t.invariant c.suppliers_at-suppliers.ensures.0
+    turns_step _ (t / 3) (t % 3) (omega arith) (omega arith) c.loop-t-test.true c.loop-t.invariant c.suppliers_at-suppliers.ensures
     (c.number_at-want.ensures ∙ wanted_read (words_in c.args.s.now) p.hours_apply (t / 3) (t % 3) (omega arith) (omega arith)) c.serve.ensures
 
 pub returns : goal.returns

@@ -17,7 +17,6 @@ use Rattle.closing_rules.specs.Closing.{turn, stocks_of, serving, stock, want, s
 use Rattle.closing_rules.proofs.DrawingLaws.{stock_stays}
 use Rattle.closing_rules.proofs.ClosingLaws.{open_total_lem}
 use Rattle.closing_rules.proofs.ClosingBeyond.{open_beyond}
-use Rattle.class_bank.specs.declared.ClassBank.{ClassBank}
 use Rattle.closing_by_hours.specs.Laws.HoursDrawing.{Drawn}
 use Rattle.class_turns.specs.Laws.TurnsSettled.{TurnsSettled}
 
@@ -38,8 +37,8 @@ module _ (b : Book) (f : Facts b) where
   stays zero = rw add-zero
   stays (suc i) = rw add-suc (fun_ext (λ s. stock_stays (serving b) (stock b) (want b) s (last + i) (wants_none (last + i) (omega arith)))) ∙ stays i
 
-  module _ {n m : ℕ} {left : ClassBank} {drawn supplied' balance lacking : List ℕ} (library : Drawn b n m b.plan.C left drawn supplied') (turns : TurnsSettled b 48 balance lacking) where
-    pub same_bank : place 24 left.balance ≡ place 24 balance
+  module _ {n m : ℕ} {left drawn supplied' balance lacking : List ℕ} (library : Drawn b n m b.plan.C left drawn supplied') (turns : TurnsSettled b 48 balance lacking) where
+    pub same_bank : place 24 left ≡ place 24 balance
     same_bank =
         let e : last + (48 - last) ≡ 48 = omega (arith, f.counts.C_high) in
         library.left_is ∙ sym (turns.balance_is ∙ ap at (sym e) ∙ stays (48 - last))

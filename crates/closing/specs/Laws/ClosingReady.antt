@@ -10,7 +10,7 @@ use Rattle.record.specs.declared.Counts.{Counts}
 use Rattle.record.specs.declared.Switch.{Switch}
 use Rattle.record_layout.specs.Laws.RecordHead.{HeadRead}
 use Rattle.record_layout.specs.OnBytes.{record_in, CalledOn, book_in}
-use Rattle.record_layout.specs.Laws.OnBytesLaws.{on_accepted, on_refused}
+use Rattle.record_layout.specs.Laws.OnBytesLaws.{on_accepted}
 use Rattle.closing_rules.specs.Closing.{after_closing, closing_output, closing_rule}
 use Rattle.closing_rules.proofs.ClosingRefusals.{facts}
 use Rattle.closing_totals.specs.Laws.ClosingTotals.{Listed}
@@ -24,6 +24,3 @@ module _ (s lent : List ℕ) where
       s' ≡ encode 8 (words (stored (after_closing (book_in s)))) → out ≡ closing_output (book_in s) → CalledOn (closing_rule (length lent)) s lent 0 s' out
   unfolding closing_rule
   closing_accepted z e o = on_accepted _ s lent refl z e o
-
-  pub closing_refused : {n : ℕ} → n ≡ number_on (closing_rule (length lent)) (record_in s) → (n ≡ 0 → ⊥) → CalledOn (closing_rule (length lent)) s lent n s lent
-  closing_refused e not-0 = on_refused _ s lent e not-0

@@ -1,5 +1,5 @@
 -- The loop of `closing_by_hours::by_generator`: what lasts from turn to turn, and what falls.
-use Prim.Native.Nat.{◌-◌, ◌≤◌}
+use Prim.Native.Nat.{◌≤◌}
 use lib.ListN.{replicate}
 use Rattle.lists.specs.Laws.TablesLaws.{Filling}
 use Rattle.closing_by_hours.specs.Laws.ByGenerator.{excess}
@@ -7,6 +7,3 @@ use Rattle.closing_by_hours.proofs.by_generator.Given as goal
 
 abbrev pub invariant-loop-g : goal.invariant-loop-g
 invariant-loop-g l = Filling 8 (excess l.more l.less) (replicate 8 0) l.g l.out × (l.g ≤ l.n)
-
-abbrev pub decreases-loop-g : goal.decreases-loop-g
-decreases-loop-g l = l.n - l.g

@@ -8,7 +8,6 @@ use Rattle.record_places.specs.Laws.Places.{off_peak_at, normal_at, peak_at}
 use Rattle.lists.specs.Tables.{table}
 use Rattle.closing_by_hours.specs.Laws.ClassesRead.{wanted_at}
 use native.Mathlib.Omega.{arith}
-use borrow.Author.Rules.{rules}
 use Rattle.closing_by_hours.proofs.wanted_at.Goals as goal
 
 pub returns : goal.returns

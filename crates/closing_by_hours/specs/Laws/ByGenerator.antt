@@ -1,6 +1,6 @@
 -- Lists by generator and class added up by generator. Assumes nothing.
 use Rattle.std.specs.Prelude.{ℕ, ◌+◌, ◌-◌, ◌*◌, ◌≤◌, ◌<◌, ◌≡◌, refl, List, length, get_or, set, replicate}
-use Rattle.std.proofs.Common.{ap, ◌∙◌, arith}
+use Rattle.std.proofs.Common.{ap, ◌∙◌}
 use Rattle.lists.specs.Laws.TablesLaws.{Filling, fill_start, fill_step, filled}
 use Rattle.energy.specs.Limits.{most_figure}
 

@@ -6,7 +6,7 @@ use native.Mathlib.Omega.{arith}
 use Rattle.std.proofs.Math.ListN.{length, get_or, get_or-eq_default}
 use Rattle.lists.specs.Sums.{sum}
 use Rattle.lists.specs.Tables.{table}
-use Rattle.lists.specs.Laws.TablesLaws.{length_table, get_or_table, table_same, Filling, fill_start, fill_step, filled, filled_before}
+use Rattle.lists.specs.Laws.TablesLaws.{get_or_table, table_same, Filling, fill_start, fill_step, filled, filled_before}
 use Rattle.lists.specs.Pairs.{place}
 use Rattle.lists.specs.Laws.PairsLaws.{place_in}
 use Rattle.energy.specs.Limits.{most_figure}
@@ -22,22 +22,19 @@ use Rattle.closing_rules.specs.Drawing.{stock_at, missing_at}
 use Rattle.closing_rules.specs.Closing.{source, turn, sources_of, stocks_of, credited, serving, stock, want, drawn_of, supplied_of, drawn, supplied}
 use Rattle.closing_rules.proofs.DrawingLaws as Turns
 use Rattle.closing_rules.proofs.ClosingLaws.{stock_at_lem, want_at, serving_at, consumer_drawn, credited_split, consumer_split}
-use Rattle.class_bank.specs.declared.ClassBank.{ClassBank}
-use Rattle.class_bank.specs.declared.ClassDraw.{ClassDraw}
-use Rattle.class_bank.specs.Laws.ClassBankSteps.{stock_after, draw_of}
-use Rattle.class_bank.specs.Laws.ClassBankLaws.{draw_leaves}
+use Rattle.class_bank.specs.Laws.Serving.{ClassesDrew}
 use Rattle.closing_by_hours.specs.Laws.ByGenerator.{Exceeds, excess}
 use Rattle.closing_by_hours.specs.Laws.ClassesRead.{wanted_at, wanted_read}
 
 -- What drawing on a record's bytes asks: a sound record, and a bank that holds what step 1 leaves.
-pub record Drawable (s : List ℕ) (bank : ClassBank) (n m : ℕ) : Type 0 where
+pub record Drawable (s balance : List ℕ) (n m : ℕ) : Type 0 where
   pub whole : length s ≡ record_bytes
   pub hours_apply : by_hours (book_in s) ≡ true
   pub facts : Facts (book_in s)
   pub n_is : n ≡ (book_in s).plan.G
   pub m_is : m ≡ (book_in s).plan.C
-  pub size : length bank.balance ≡ 24
-  pub stock_is : place 24 bank.balance ≡ stock (book_in s)
+  pub size : length balance ≡ 24
+  pub stock_is : place 24 balance ≡ stock (book_in s)
 
 module _ (b : Book) where
   -- the stocks when the turn comes to consumer c
@@ -45,38 +42,39 @@ module _ (b : Book) where
   at_turn c = stock_at (serving b) (stock b) (want b) (c * classes)
 
   -- The first c consumers have drawn: the bank that they leave, their columns of the list of n rows of m, and what each lacks.
-  pub record Drawn (n m c : ℕ) (left : ClassBank) (drawn' supplied' : List ℕ) : Type 0 where
-    pub size : length left.balance ≡ 24
-    pub left_is : place 24 left.balance ≡ at_turn c
+  pub record Drawn (n m c : ℕ) (left drawn' supplied' : List ℕ) : Type 0 where
+    pub size : length left ≡ 24
+    pub left_is : place 24 left ≡ at_turn c
     pub drawn_is : Columns n m (drawn b) c drawn'
     pub supplied_is : Filling 16 (supplied b) (replicate 16 0) c supplied'
 
-  pub drawing_start : {n m : ℕ} {left : ClassBank} {drawn' : List ℕ} → length left.balance ≡ 24 → place 24 left.balance ≡ stock b → length drawn' ≡ n * m →
+  pub drawing_start : {n m : ℕ} {left drawn' : List ℕ} → length left ≡ 24 → place 24 left ≡ stock b → length drawn' ≡ n * m →
       Drawn n m 0 left drawn' (replicate 16 0)
   unfolding stock_at
   drawing_start z e l = record { size = z; left_is = e; drawn_is = columns_start l; supplied_is = fill_start refl }
 
-  -- consumer c has drawn: the bank that it leaves, and what it lacks of each class
-  pub record TurnDrawn (c : ℕ) (d : ClassDraw) : Type 0 where
-    pub size : length d.bank.balance ≡ 24
-    pub left_is : place 24 d.bank.balance ≡ at_turn (c + 1)
-    pub lacks : (k : ℕ) → k < classes → get_or d.left k 0 ≡ supplied_of b k c
+  -- consumer c has drawn: the balances that it leaves, and what it lacks of each class
+  pub record TurnDrawn (c : ℕ) (left lacking : List ℕ) : Type 0 where
+    pub size : length left ≡ 24
+    pub left_is : place 24 left ≡ at_turn (c + 1)
+    pub lacks : (k : ℕ) → k < classes → get_or lacking k 0 ≡ supplied_of b k c
 
-  pub turn_drawn : (c : ℕ) (left : ClassBank) (gs want' : List ℕ) {d : ClassDraw} → place 24 left.balance ≡ at_turn c → gs ≡ suppliers b.plan c →
-      ((k : ℕ) → k < classes → get_or want' k 0 ≡ (stocks_of b k).outstanding c) → d ≡ draw_of left gs want' → TurnDrawn c d
-  unfolding draw_of supplied_of
-  turn_drawn c left gs want' e p w q =
-      let same : (k : ℕ) → k < classes → sources_of k gs ≡ serving b (turn c k) = λ k l. ap (sources_of k) p ∙ sym (serving_at b c k l) in
+  pub turn_drawn : (c : ℕ) (want' : List ℕ) {left left' lacking : List ℕ} → place 24 left ≡ at_turn c →
+      ((k : ℕ) → k < classes → get_or want' k 0 ≡ (stocks_of b k).outstanding c) → ClassesDrew (suppliers b.plan c) want' left left' lacking → TurnDrawn c left' lacking
+  unfolding supplied_of
+  turn_drawn c want' e w d =
+      let gs = suppliers b.plan c in
+      let same : (k : ℕ) → k < classes → sources_of k gs ≡ serving b (turn c k) = λ k l. sym (serving_at b c k l) in
       let wanted : (k : ℕ) → k < classes → place classes want' k ≡ want b (turn c k) = λ k l. place_in classes want' k l ∙ w k l ∙ sym (want_at b c k l) in
       let on = Turns.stock_shift (serving b) (λ k. sources_of k gs) (stock b) (want b) (place classes want') (c * classes) classes same wanted in
       let lack = Turns.missing_shift (serving b) (λ k. sources_of k gs) (stock b) (want b) (place classes want') (c * classes) classes same wanted in
       let next : c * classes + classes ≡ (c + 1) * classes = omega arith in
       record {
-        size = ap (λ (x : ClassDraw). length x.bank.balance) q ∙ length_table 24 _;
+        size = d.size;
         left_is =
-            ap (λ (x : ClassDraw). place 24 x.bank.balance) q ∙ draw_leaves left gs want' ∙ (λ i. stock_at (λ k. sources_of k gs) (e i) (place classes want') classes) ∙ on classes (omega arith) ∙
+            d.leaves ∙ (λ i. stock_at (λ k. sources_of k gs) (e i) (place classes want') classes) ∙ on classes (omega arith) ∙
             ap (stock_at (serving b) (stock b) (want b)) next;
-        lacks = λ k l. ap (λ (x : ClassDraw). get_or x.left k 0) q ∙ get_or_table classes _ k 0 l ∙ (λ i. missing_at (λ k. sources_of k gs) (e i) (place classes want') k) ∙ lack k l;
+        lacks = λ k l. ap (λ (xs : List ℕ). get_or xs k 0) d.lacks ∙ get_or_table classes _ k 0 l ∙ (λ i. missing_at (λ k. sources_of k gs) (e i) (place classes want') k) ∙ lack k l;
       }
 
   -- two banks one turn apart
@@ -128,13 +126,13 @@ module _ (b : Book) where
   pub lacking_low : Facts b → (c : ℕ) → supplied b c ≤ most_figure
   lacking_low f c = omega (arith, consumer_split b f c, metered_most b f c, (f.con c).equation)
 
-  pub lacking_sum : (c : ℕ) {d : ClassDraw} → TurnDrawn c d → get_or d.left 0 0 + get_or d.left 1 0 + get_or d.left 2 0 ≡ supplied b c
+  pub lacking_sum : (c : ℕ) {left lacking : List ℕ} → TurnDrawn c left lacking → get_or lacking 0 0 + get_or lacking 1 0 + get_or lacking 2 0 ≡ supplied b c
   unfolding supplied sum
   lacking_sum c t = omega (arith, t.lacks 0 (omega arith), t.lacks 1 (omega arith), t.lacks 2 (omega arith))
 
-  pub drawing_step : Facts b → {n m c x : ℕ} {left : ClassBank} {drawn' drawn'' supplied' column : List ℕ} {d : ClassDraw} → c < m → m ≤ 16 → n ≤ 8 → Drawn n m c left drawn' supplied' →
-      TurnDrawn c d → column ≡ filled (replicate 8 0) n (excess left.balance d.bank.balance) → ColumnPut n m drawn' c column n drawn'' → x ≡ supplied b c →
-      Drawn n m (c + 1) d.bank drawn'' (set supplied' c x)
+  pub drawing_step : Facts b → {n m c x : ℕ} {left left' lacking drawn' drawn'' supplied' column : List ℕ} → c < m → m ≤ 16 → n ≤ 8 → Drawn n m c left drawn' supplied' →
+      TurnDrawn c left' lacking → column ≡ filled (replicate 8 0) n (excess left left') → ColumnPut n m drawn' c column n drawn'' → x ≡ supplied b c →
+      Drawn n m (c + 1) left' drawn'' (set supplied' c x)
   drawing_step f {n} {c = c} l wide few h t q put e =
       record {
         size = t.size;
@@ -146,7 +144,7 @@ module _ (b : Book) where
       }
 
   -- what each of the consumers lacks, in the list's places
-  pub supplied_are : {n m c : ℕ} {left : ClassBank} {drawn' supplied' : List ℕ} → Drawn n m c left drawn' supplied' → table c (λ j. get_or supplied' j 0) ≡ table c (supplied b)
+  pub supplied_are : {n m c : ℕ} {left drawn' supplied' : List ℕ} → Drawn n m c left drawn' supplied' → table c (λ j. get_or supplied' j 0) ≡ table c (supplied b)
   supplied_are {c = c} h =
       table_same c _ _ (λ j l. ap (λ (ys : List ℕ). get_or ys j 0) h.supplied_is.is ∙ filled_before (replicate 16 0) c (supplied b) j 0 l)
 
@@ -154,3 +152,18 @@ module _ (b : Book) where
 pub wants_are : (s : List ℕ) {want' : List ℕ} (c : ℕ) → by_hours (book_in s) ≡ true → c < 16 → want' ≡ table classes (wanted_at (words_in s) c) →
     (k : ℕ) → k < classes → get_or want' k 0 ≡ (stocks_of (book_in s) k).outstanding c
 wants_are s c e h q k l = ap (λ (xs : List ℕ). get_or xs k 0) q ∙ get_or_table classes _ k 0 l ∙ wanted_read (words_in s) e c k h l
+
+-- what each turn of the drawing stands on
+module _ {s balance : List ℕ} {n m : ℕ} (p : Drawable s balance n m) where
+  pub few : n ≤ 8
+  few = omega (arith, p.n_is, p.facts.counts.G_high)
+
+  pub narrow : m ≤ 16
+  narrow = omega (arith, p.m_is, p.facts.counts.C_high)
+
+  pub turned : {c : ℕ} {want' left left' lacking drawn' supplied' : List ℕ} → c < m → Drawn (book_in s) n m c left drawn' supplied' →
+      want' ≡ table classes (wanted_at (words_in s) c) → ClassesDrew (suppliers (book_in s).plan c) want' left left' lacking → TurnDrawn (book_in s) c left' lacking
+  turned {c} {want'} l h q d = turn_drawn (book_in s) c want' h.left_is (wants_are s c p.hours_apply (omega (arith, narrow)) q) d
+
+  pub lacking_fits : {c : ℕ} {left lacking : List ℕ} → TurnDrawn (book_in s) c left lacking → get_or lacking 0 0 + get_or lacking 1 0 + get_or lacking 2 0 ≤ most_figure
+  lacking_fits {c} t = omega (arith, lacking_sum (book_in s) c t, lacking_low (book_in s) p.facts c)

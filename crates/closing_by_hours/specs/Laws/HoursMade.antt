@@ -3,7 +3,8 @@ use Prim.Native.Nat.{ℕ, ◌+◌, ◌-◌, ◌*◌, ◌/◌, ◌%◌, ◌≤◌
 use Rattle.std.specs.Prelude.{◌≡◌, Bool, true, false, ltb, replicate, if◌then◌else◌}
 use Rattle.std.proofs.Math.Path.{refl, sym, ap, fun_ext}
 use Rattle.std.proofs.Common.{◌∙◌, ltb-true, ltb-false}
-use mathlib.Core.List.{List, [], ◌∷◌, ◌++◌, append-nil}
+use mathlib.Core.List.{List, [], ◌∷◌, ◌++◌}
+use native.Mathlib.Nat.{mul-le-mul}
 use native.Mathlib.Omega.{arith}
 use Rattle.std.proofs.Math.ListN.{length, get_or}
 use Rattle.lists.specs.Sums.{sum}
@@ -31,12 +32,10 @@ use Rattle.closing_rules.specs.Drawing.{stock_at}
 use Rattle.closing_rules.specs.Closing.{lapse_due, source, stocks_of, taken_up, charge_of, credited, serving, stock, want, bank_left, charge, drawn, supplied, bank_before_lapse, lapses, lapsed, bank_after, closing_lists, closing_output, closing_rule}
 use Rattle.closing_rules.proofs.ClosingLaws.{bank_total_lem, pending_total_lem, credited_split, all_drawn}
 use Rattle.closing_rules.proofs.ClosingBeyond.{bank_beyond, pending_beyond}
-use Rattle.closing_rules.proofs.ClosingRefusals.{facts, generators_few, consumers_few, output_size}
-use Rattle.bank.specs.Laws.CreditLaws.{charge_at, credit_at}
-use Rattle.class_bank.specs.Laws.ClassBankSteps.{credit_of, creditable, credit_answer}
-use Rattle.class_bank.specs.Laws.ClassBankLaws.{creditable_so, credit_within}
-use Rattle.class_bank.specs.declared.ClassBank.{ClassBank}
-use Rattle.class_bank.specs.declared.ClassCredit.{ClassCredit}
+use Rattle.closing_rules.proofs.ClosingRefusals.{facts, output_size}
+use Rattle.bank.specs.Laws.CreditLaws.{charge_at, credit_at, creditable, creditable_so}
+use Rattle.bank.specs.Laws.BankSteps.{Credited}
+use Rattle.bank.specs.Laws.BankLaws.{credit_within, credit_size}
 use Rattle.closing_by_hours.specs.Laws.ByGenerator.{Exceeds, excess, summed}
 use Rattle.closing_by_hours.specs.Laws.ClassesRead.{class_number, bank_read, pending_read}
 use Rattle.closing_by_hours.specs.Laws.HoursDrawing.{Drawable, Drawn, supplied_are}
@@ -94,6 +93,9 @@ module _ (s : List ℕ) (terms : Terms) (size : ℕ) (whole : length s ≡ recor
   pub m_high : m ≤ 16
   m_high = omega (arith, m_is, sound.counts.C_high)
 
+  pub drawn_small : n * m ≤ 128
+  drawn_small = mul-le-mul n_high m_high
+
   pub output_long : size ≡ n * m + (3 * n + 2 * m)
   output_long = rw terms_are (omega (arith, output_size (record_in s) size z))
 
@@ -127,10 +129,10 @@ module _ (s : List ℕ) (terms : Terms) (size : ℕ) (whole : length s ≡ recor
     pending_at_lem = read_at (class_number (words_in s) 8) _ q (pending_read (words_in s) hours) (λ i l. pending_none (i % 3) (i / 3) (omega arith) (omega (arith, n_is)))
 
     -- no figure of a sound record is beyond the bank's limits
-    credit_taken : creditable (record { balance = held }) (3 * n) pending terms.rate ≡ true
+    credit_taken : creditable 24 held (3 * n) pending terms.rate ≡ true
     unfolding figures taken_up
     credit_taken =
-        creditable_so _ _ _ _ (omega (arith, sound.counts.rate_high, ap (λ (t : Terms). t.rate) terms_are))
+        creditable_so _ _ _ _ _ (omega (arith, n_high)) (omega (arith, sound.counts.rate_high, ap (λ (t : Terms). t.rate) terms_are))
         (λ i l.
         let g = i / 3 in
         let k : i % 3 < classes = omega arith in
@@ -146,10 +148,7 @@ module _ (s : List ℕ) (terms : Terms) (size : ℕ) (whole : length s ≡ recor
           (sound.gen g).equation,
         ))
 
-    module _ {x : ClassCredit} (c : x ≡ credit_answer (record { balance = held }) (3 * n) pending terms.rate) where
-      credit_is : x ≡ credit_of (record { balance = held }) (3 * n) pending terms.rate
-      credit_is = c ∙ credit_within _ _ _ _ (omega (arith, n_high)) credit_taken
-
+    module _ {balance charge' : List ℕ} (c : Credited 24 held (3 * n) pending terms.rate balance charge') where
       rate_is : terms.rate ≡ b.rate
       unfolding figures
       rate_is = ap (λ (t : Terms). t.rate) terms_are
@@ -161,18 +160,14 @@ module _ (s : List ℕ) (terms : Terms) (size : ℕ) (whole : length s ≡ recor
       held_size : length held ≡ 24
       held_size = ap length p ∙ length_filled none (3 * n) _ (omega (arith, n_high))
 
-      balance_size : length x.bank.balance ≡ 24
-      unfolding credit_of
-      balance_size = ap (λ (y : ClassCredit). length y.bank.balance) credit_is ∙ length_filled held (3 * n) _ (omega (arith, n_high, held_size)) ∙ held_size
-
       credit_here : (i : ℕ) → credit_at 24 pending terms.rate held i ≡ credited b (i % 3) (i / 3)
       unfolding credit_at credited
       credit_here i = omega (arith, held_at i, pending_at_lem i, charge_at_lem i)
 
       -- the balances after the credit are the stocks of the closing
-      stocked : place 24 x.bank.balance ≡ stock b
-      unfolding credit_of stock credited taken_up
-      stocked = ap (λ (y : ClassCredit). place 24 y.bank.balance) credit_is ∙ fun_ext (λ i. go i (ltb i (3 * n)) refl (ltb i 24) refl)
+      stocked : place 24 balance ≡ stock b
+      unfolding stock credited taken_up
+      stocked = ap (place 24) (credit_within credit_taken c).0 ∙ fun_ext (λ i. go i (ltb i (3 * n)) refl (ltb i 24) refl)
         where
           now : List ℕ
           now = filled held (3 * n) (credit_at 24 pending terms.rate held)
@@ -201,56 +196,54 @@ module _ (s : List ℕ) (terms : Terms) (size : ℕ) (whole : length s ≡ recor
               )
           go i false a false d = place_out 24 now i (ltb-false i 24 d) ∙ sym (later i (ltb-false i (3 * n) a))
 
-      pub draw_ready : Drawable s x.bank n m
-      draw_ready = record { whole = whole; hours_apply = hours; facts = sound; n_is = n_is; m_is = m_is; size = balance_size; stock_is = stocked }
+      pub draw_ready : Drawable s balance n m
+      draw_ready = record { whole = whole; hours_apply = hours; facts = sound; n_is = n_is; m_is = m_is; size = credit_size held_size c; stock_is = stocked }
 
       -- ---- the charge
 
-      charged : (g k : ℕ) → g < n → k < classes → get_or x.charge (source g k) 0 ≡ charge_of b k g
-      unfolding credit_of
+      charged : (g k : ℕ) → g < n → k < classes → get_or charge' (source g k) 0 ≡ charge_of b k g
       charged g k l h =
-          ap (λ (y : ClassCredit). get_or y.charge (source g k) 0) credit_is ∙ filled_before none (3 * n) (charge_at 24 pending terms.rate) (source g k) 0 (omega arith) ∙ charge_at_lem (source g k) ∙
+          ap (λ (xs : List ℕ). get_or xs (source g k) 0) (credit_within credit_taken c).1 ∙ filled_before none (3 * n) (charge_at 24 pending terms.rate) (source g k) 0 (omega arith) ∙ charge_at_lem (source g k) ∙
           (λ i. charge_of b (column_of_lem 3 g k h i) (row_of 3 g k h i))
 
-      charge_size : length x.charge ≡ 24
-      unfolding credit_of
-      charge_size = ap (λ (y : ClassCredit). length y.charge) credit_is ∙ length_filled none (3 * n) _ (omega (arith, n_high))
+      charge_size : length charge' ≡ 24
+      charge_size = ap length (credit_within credit_taken c).1 ∙ length_filled none (3 * n) _ (omega (arith, n_high))
 
       charge_low : (g : ℕ) → charge b g ≤ most_figure
       charge_low g = omega (arith, credited_split b sound g, injected_most b sound g, (sound.gen g).equation)
 
-      pub charge_adds : Exceeds x.charge none n
+      pub charge_adds : Exceeds charge' none n
       unfolding charge
-      charge_adds = adds_up n x.charge (charge_of b) charge_size charged (λ g l. charge_low g)
+      charge_adds = adds_up n charge' (charge_of b) charge_size charged (λ g l. charge_low g)
 
-      pub charges : {ys : List ℕ} → ys ≡ summed x.charge n → table n (λ g. get_or ys g 0) ≡ table n (charge b)
+      pub charges : {ys : List ℕ} → ys ≡ summed charge' n → table n (λ g. get_or ys g 0) ≡ table n (charge b)
       unfolding charge
-      charges = added n x.charge (charge_of b) charge_size charged
+      charges = added n charge' (charge_of b) charge_size charged
 
   -- ---- the lapse, when all consumers have drawn
 
-  module _ {left : ClassBank} {out supplied' : List ℕ} (d : Drawn b n m m left out supplied') where
-    held_then : (g k : ℕ) → g < n → k < classes → get_or left.balance (source g k) 0 ≡ bank_left b k g
+  module _ {left out supplied' : List ℕ} (d : Drawn b n m m left out supplied') where
+    held_then : (g k : ℕ) → g < n → k < classes → get_or left (source g k) 0 ≡ bank_left b k g
     unfolding bank_left
     held_then g k l h =
-        sym (place_in 24 left.balance (source g k) (omega (arith, n_high))) ∙ ap (λ (f : ℕ → ℕ). f (source g k)) d.left_is ∙
+        sym (place_in 24 left (source g k) (omega (arith, n_high))) ∙ ap (λ (f : ℕ → ℕ). f (source g k)) d.left_is ∙
         ap (λ (c : ℕ). stock_at (serving b) (stock b) (want b) (c * classes) (source g k)) m_is
 
     left_low : (g : ℕ) → bank_before_lapse b g ≤ most_figure
     left_low g = omega (arith, all_drawn b g, credited_split b sound g, injected_most b sound g, (sound.gen g).equation)
 
-    pub lapsed_adds : Exceeds left.balance none n
+    pub lapsed_adds : Exceeds left none n
     unfolding bank_before_lapse
-    lapsed_adds = adds_up n left.balance (bank_left b) d.size held_then (λ g l. left_low g)
+    lapsed_adds = adds_up n left (bank_left b) d.size held_then (λ g l. left_low g)
 
     -- by hours every bank lapses
     due : lapses b ≡ true
     unfolding lapses lapse_due
     due = rw hours
 
-    lapsed_are : {ys : List ℕ} → ys ≡ summed left.balance n → table n (λ g. get_or ys g 0) ≡ table n (lapsed b)
+    lapsed_are : {ys : List ℕ} → ys ≡ summed left n → table n (λ g. get_or ys g 0) ≡ table n (lapsed b)
     unfolding lapsed bank_before_lapse
-    lapsed_are q = added n left.balance (bank_left b) d.size held_then q ∙ (λ i. table n (λ g. if sym due i then sum classes (λ k. bank_left b k g) else 0))
+    lapsed_are q = added n left (bank_left b) d.size held_then q ∙ (λ i. table n (λ g. if sym due i then sum classes (λ k. bank_left b k g) else 0))
 
     stay_are : table n (λ g. get_or {A = ℕ} (replicate 8 0) g 0) ≡ table n (bank_after b)
     unfolding bank_after
@@ -258,13 +251,12 @@ module _ (s : List ℕ) (terms : Terms) (size : ℕ) (whole : length s ≡ recor
 
     -- the lists that the steps give are the output of the rules
     pub lists_are : (charge' : List ℕ) {lapsed' outstanding : List ℕ} → table n (λ g. get_or charge' g 0) ≡ table n (charge b) →
-        lapsed' ≡ summed left.balance n → outstanding ≡ run (words_in s) 16 outstanding_at →
-        joined (out ∷ five_lists charge' lapsed' (replicate 8 0) outstanding supplied' n m ∷ []) ≡ closing_output b
+        lapsed' ≡ summed left n → outstanding ≡ run (words_in s) 16 outstanding_at →
+        out ++ five_lists charge' lapsed' (replicate 8 0) outstanding supplied' n m ≡ closing_output b
     unfolding five_lists joined closing_output closing_lists figures consumer_at
     lists_are charge' charges-are lapsed-q open-q =
         let opened = open-q ∙ ap (λ (x : Consumers). x.outstanding) (sym (consumers_at (words_in s))) in
         let opens = ap (λ (xs : List ℕ). table m (λ c. get_or xs c 0)) opened ∙ list_places m 16 (record_in s).consumers.outstanding m_high in
-        ap (λ (xs : List ℕ). out ++ xs) (append-nil _) ∙
         (λ i. joined (columns_pairs d.drawn_is i ∷ charges-are i ∷ lapsed_are lapsed-q i ∷ stay_are i ∷ opens i ∷ supplied_are b d i ∷ [])) ∙
         (λ i.
         let G = n_is i in

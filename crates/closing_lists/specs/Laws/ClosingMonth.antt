@@ -3,7 +3,7 @@ use Prim.Native.Nat.{ℕ, ◌≤◌}
 use Rattle.std.specs.Prelude.{◌≡◌, Bool, if◌then◌else◌}
 use Rattle.std.proofs.Math.Path.{ap}
 use Rattle.std.proofs.Common.{◌∙◌, arith}
-use mathlib.Core.List.{List, [], ◌∷◌, ◌++◌, append-nil}
+use mathlib.Core.List.{List, [], ◌∷◌, ◌++◌}
 use Rattle.std.proofs.Math.ListN.{get_or}
 use Rattle.lists.specs.Tables.{table}
 use Rattle.lists.specs.Pairs.{place, pairs, joined}
@@ -17,10 +17,6 @@ use Rattle.record.specs.declared.Record.{Record}
 use Rattle.closing_rules.specs.Drawing.{stock_at, drawn_at, missing_at}
 use Rattle.closing_rules.specs.FormerClosing.{former_charge, former_credited, former_open, former_banks, former_drawn, former_supplied, former_bank_before_lapse, former_lapsed, former_bank_after, former_output}
 use Rattle.bank.specs.Laws.CreditLaws.{charge_at, credit_at}
-use Rattle.bank.specs.Laws.BankSteps.{credit_of, lapse_of}
-use Rattle.bank.specs.declared.Bank.{Bank}
-use Rattle.bank.specs.declared.Credit.{Credit}
-use Rattle.bank.specs.declared.Lapse.{Lapse}
 use Rattle.closing_lists.specs.Laws.DrawingSteps.{Drawn, supplied_are}
 use Rattle.closing_lists.specs.Laws.ClosingWritten.{five_lists}
 
@@ -44,21 +40,19 @@ module _ (r : Record) (few : r.terms.generators ≤ 8) (narrow : r.terms.consume
   unfolding former_credited figures generator_at
   none_beyond g h = omega (arith, place_out 8 r.generators.bank g h, place_out 8 r.generators.pending g h)
 
-  -- the array that is credited holds what step 1 leaves in the bank; by it the turns of step 2 are those of the rules
-  pub output_is : {k : Credit} {left : Bank} {out supplied : List ℕ} {l : Lapse} →
-      k ≡ credit_of (record { balance = r.generators.bank }) r.generators.pending r.terms.rate →
-      Drawn serving (place 8 k.bank.balance) want G C C left out supplied →
-      l ≡ lapse_of left due →
-      joined (out ∷ five_lists k.charge l.lapsed l.bank.balance r.consumers.outstanding supplied G C ∷ []) ≡ former_output b due
-  unfolding credit_of credit_at charge_at lapse_of five_lists joined former_output former_credited former_charge former_open former_banks former_drawn former_supplied former_lapsed former_bank_after former_bank_before_lapse figures generator_at consumer_at plan_of
-  output_is {k} {left} {out} {l = l} credit drew lapse =
-      let has : place 8 k.bank.balance ≡ former_credited b = ap (λ (x : Credit). place 8 x.bank.balance) credit ∙ place_table 8 (former_credited b) none_beyond in
-      let stays : place 8 left.balance ≡ former_bank_before_lapse b = drew.left_is ∙ (λ i. stock_at serving (has i) want C) in
+  -- the balances that are credited are what step 1 leaves in the bank; by them the turns of step 2 are those of the rules
+  pub output_is : {credited charge left out supplied lapsed balance : List ℕ} →
+      credited ≡ table 8 (credit_at 8 r.generators.pending r.terms.rate r.generators.bank) → charge ≡ table 8 (charge_at 8 r.generators.pending r.terms.rate) →
+      Drawn serving (place 8 credited) want G C C left out supplied →
+      lapsed ≡ table 8 (λ g. if due then place 8 left g else 0) → balance ≡ table 8 (λ g. if due then 0 else place 8 left g) →
+      out ++ five_lists charge lapsed balance r.consumers.outstanding supplied G C ≡ former_output b due
+  unfolding credit_at charge_at five_lists joined former_output former_credited former_charge former_open former_banks former_drawn former_supplied former_lapsed former_bank_after former_bank_before_lapse figures generator_at consumer_at plan_of
+  output_is {credited} {left = left} {out} credit charges drew lapse after =
+      let has : place 8 credited ≡ former_credited b = ap (place 8) credit ∙ place_table 8 (former_credited b) none_beyond in
+      let stays : place 8 left ≡ former_bank_before_lapse b = drew.left_is ∙ (λ i. stock_at serving (has i) want C) in
       let drawn_are : out ≡ pairs G C (former_drawn b) = columns_pairs drew.drawn_is ∙ (λ i. pairs G C (drawn_at serving (has i) want)) in
-      let charges : k.charge ≡ table 8 (former_charge b) = ap (λ (x : Credit). x.charge) credit in
-      let lapsed_are : l.lapsed ≡ table 8 (former_lapsed b due) = ap (λ (x : Lapse). x.lapsed) lapse ∙ (λ i. table 8 (λ g. if due then stays i g else 0)) in
-      let balances : l.bank.balance ≡ table 8 (former_bank_after b due) = ap (λ (x : Lapse). x.bank.balance) lapse ∙ (λ i. table 8 (λ g. if due then 0 else stays i g)) in
+      let lapsed_are = lapse ∙ (λ i. table 8 (λ g. if due then stays i g else 0)) in
+      let balances = after ∙ (λ i. table 8 (λ g. if due then 0 else stays i g)) in
       let lacking = supplied_are serving _ want G C drew ∙ (λ i. table C (missing_at serving (has i) want)) in
       let first : (xs : List ℕ) (f : ℕ → ℕ) → xs ≡ table 8 f → table G (λ g. get_or xs g 0) ≡ table G f = λ xs f e. ap (λ (ys : List ℕ). table G (λ g. get_or ys g 0)) e ∙ list_table G 8 f few in
-      ap (λ (xs : List ℕ). out ++ xs) (append-nil _) ∙
-      (λ i. joined (drawn_are i ∷ first _ _ charges i ∷ first _ _ lapsed_are i ∷ first _ _ balances i ∷ list_places C 16 r.consumers.outstanding narrow i ∷ lacking i ∷ []))
+      (λ i. joined (drawn_are i ∷ first _ (former_charge b) charges i ∷ first _ (former_lapsed b due) lapsed_are i ∷ first _ (former_bank_after b due) balances i ∷ list_places C 16 r.consumers.outstanding narrow i ∷ lacking i ∷ []))

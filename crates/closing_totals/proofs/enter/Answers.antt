@@ -2,7 +2,6 @@
 -- Assumes nothing.
 use mathlib.Core.Path.{◌∙◌}
 use native.Mathlib.Omega.{arith}
-use borrow.Author.Rules.{rules}
 use Rattle.closing_totals.specs.Laws.ClosingAfterLaws.{gone_few, closings_few, totals_raisable, lists_stand, bytes_after}
 use Rattle.closing_totals.proofs.enter.Goals as goal
 

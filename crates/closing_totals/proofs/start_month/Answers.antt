@@ -1,5 +1,4 @@
 -- `closing_totals::start_month` meets its contract: three counts are written. Assumes nothing.
-use borrow.Author.Rules.{rules}
 use Rattle.closing_totals.specs.Laws.ClosingTotalsLaws.{counts_all}
 use Rattle.closing_totals.proofs.start_month.Goals as goal
 

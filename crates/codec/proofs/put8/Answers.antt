@@ -1,34 +1,17 @@
--- `codec::put8` meets its contract: its eight stores write the number's low bytes. Assumes nothing.
-use native.Mathlib.Omega.{arith}
-use lib.ListN.{length-set}
+-- `codec::put8` meets its contract: the number's low bytes are those of `to_le_bytes`. Assumes nothing.
+use Rattle.std.proofs.Common.{ℕ, ◌≡◌, arith, ◌∙◌}
+use Rattle.std.specs.Int.{to_le_bytes, w64}
+use Rattle.std.proofs.Math.Nat.{div-div-eq-div-mul}
 use Rattle.codec.specs.Bytes.{bytes}
-use Rattle.codec.specs.Laws.BytesPut.{stores}
+use Rattle.codec.specs.Laws.BytesLaws.{length_bytes}
+use Rattle.codec.specs.Laws.BytesPut.{put_over}
 use Rattle.codec.proofs.put8.Goals as goal
 
-pub bounds-s-b-2 : goal.bounds-s-b-2
-bounds-s-b-2 c = simp length-set (omega arith)
-
-pub bounds-s-b-3 : goal.bounds-s-b-3
-bounds-s-b-3 c = simp length-set (omega arith)
-
-pub bounds-s-b-4 : goal.bounds-s-b-4
-bounds-s-b-4 c = simp length-set (omega arith)
-
-pub bounds-s-b-5 : goal.bounds-s-b-5
-bounds-s-b-5 c = simp length-set (omega arith)
-
-pub bounds-s-b-6 : goal.bounds-s-b-6
-bounds-s-b-6 c = simp length-set (omega arith)
-
-pub bounds-s-b-7 : goal.bounds-s-b-7
-bounds-s-b-7 c = simp length-set (omega arith)
-
-pub bounds-s-b-8 : goal.bounds-s-b-8
-bounds-s-b-8 c = simp length-set (omega arith)
-
-pub shape_of-s : goal.shape_of-s
-shape_of-s c = simp length-set
+low_bytes : (w : ℕ) → to_le_bytes w64 w ≡ bytes 8 w
+unfolding bytes
+low_bytes w = simp div-div-eq-div-mul
 
 pub returns : goal.returns
-unfolding bytes
-returns c = rw stores
+returns c =
+    let e : c.copy_from_slice.new.self ≡ bytes 8 c.args.w = c.copy_from_slice.ensures.after ∙ c.to_le_bytes.ensures ∙ low_bytes c.args.w in
+    rw e (put_over _ 8 _ _ (length_bytes 8 c.args.w) (omega arith))

@@ -5,7 +5,7 @@ use Rattle.std.proofs.Math.Nat.{pow-succ', one-le-pow}
 use Rattle.std.proofs.lemmas.List.Edits.{sets, sets-eq}
 use Rattle.std.proofs.lemmas.List.{take-set-le, drop-set-add}
 use Rattle.std.proofs.Math.Seq.{take-nil}
-use Rattle.codec.specs.Bytes.{number, bytes, encode, decode}
+use Rattle.codec.specs.Bytes.{number, bytes, encode, decode_as, decode}
 
 -- every number of the list is below b
 abbrev pub Below : ℕ → List ℕ → Type 0
@@ -24,7 +24,7 @@ length_encode k [] = sym (zero-mul k)
 length_encode k (w ∷ ws) = omega (arith, length-append (bytes k w) (encode k ws), length_bytes k w, length_encode k ws, suc-mul (length ws) k)
 
 pub length_decode : (k n : ℕ) (s : List ℕ) → length (decode k n s) ≡ n
-unfolding decode
+unfolding decode_as
 length_decode k zero s = refl
 length_decode k (suc n) s = ap suc (length_decode k n (drop k s))
 
@@ -59,14 +59,14 @@ encode_append k [] ys = refl
 encode_append k (x ∷ xs) ys = rw (encode_append k xs ys) (sym (append_assoc (bytes k x) (encode k xs) (encode k ys)))
 
 drop_decode : (k m n : ℕ) (s : List ℕ) → drop m (decode k (m + n) s) ≡ decode k n (drop (m * k) s)
-unfolding decode
+unfolding decode_as
 drop_decode k zero n s = rw (zero-add, zero-mul)
 drop_decode k (suc m) n s =
     let e : k + m * k ≡ suc m * k = omega (arith, suc-mul m k) in
     rw suc-add (drop_decode k m n (drop k s) ∙ ap (decode k n) (drop-drop (m * k) k s ∙ ap (λ (j : ℕ). drop j s) e))
 
 take_decode : (k m n : ℕ) (s : List ℕ) → take m (decode k (m + n) s) ≡ decode k m (take (m * k) s)
-unfolding decode
+unfolding decode_as
 take_decode k zero n s = refl
 take_decode k (suc m) n s =
     let e : suc m * k ≡ k + m * k = omega (arith, suc-mul m k) in
@@ -81,7 +81,7 @@ decode_part k all m n s h =
 
 -- one number, by its bytes
 pub decode_at : (k n i : ℕ) (s : List ℕ) → i < n → get_or (decode k n s) i 0 ≡ number (take k (drop (i * k) s))
-unfolding decode
+unfolding decode_as
 decode_at k zero i s h = absurd (omega arith)
 decode_at k (suc n) zero s h = rw zero-mul
 decode_at k (suc n) (suc i) s h =
@@ -111,14 +111,14 @@ number_below [] h = omega arith
 number_below (b ∷ bs) h = omega (arith, h 0, number_below bs (λ i. h (suc i)), pow-succ' 256 (length bs))
 
 pub decode_encode : (k : ℕ) (ws : List ℕ) → Below (256 ^ k) ws → decode k (length ws) (encode k ws) ≡ ws
-unfolding decode encode
+unfolding decode_as encode
 decode_encode k [] h = refl
 decode_encode k (w ∷ ws) h =
     rw (take_at (bytes k w) (encode k ws) k (length_bytes k w), drop_at (bytes k w) (encode k ws) k (length_bytes k w))
     (ap₂ (λ (x : ℕ) (xs : List ℕ). x ∷ xs) (number_bytes k w (h 0)) (decode_encode k ws (λ i. h (suc i))))
 
 pub encode_decode : (k n : ℕ) (s : List ℕ) → length s ≡ n * k → Below 256 s → encode k (decode k n s) ≡ s
-unfolding decode encode
+unfolding decode_as encode
 encode_decode k zero [] e h = refl
 encode_decode k zero (x ∷ s) e h = absurd (omega (arith, zero-mul k))
 encode_decode k (suc n) s e h =
@@ -129,7 +129,7 @@ encode_decode k (suc n) s e h =
     rw (first, rest) (take-append-drop k s)
 
 pub decode_below : (k n : ℕ) (s : List ℕ) → length s ≡ n * k → Below 256 s → Below (256 ^ k) (decode k n s)
-unfolding decode
+unfolding decode_as
 decode_below k zero s e h i = one-le-pow k 256 (omega arith)
 decode_below k (suc n) s e h zero =
     let size : length (take k s) ≡ k = length-take-le k s (omega (arith, suc-mul n k)) in
@@ -147,7 +147,7 @@ drop_sets n l i [] = refl
 drop_sets n l i (a ∷ vs) = rw (← (add-suc n i), drop_sets n (set l (n + i) a) (suc i) vs, drop-set-add)
 
 pub decode_sets : (k n i w : ℕ) (s : List ℕ) → i < n → length s ≡ n * k → w < 256 ^ k → decode k n (sets s (i * k) (bytes k w)) ≡ set (decode k n s) i w
-unfolding decode
+unfolding decode_as
 decode_sets k zero i w s h e l = absurd (omega arith)
 decode_sets k (suc n) zero w s h e l =
     let size = length_bytes k w in

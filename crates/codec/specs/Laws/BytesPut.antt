@@ -1,51 +1,25 @@
 -- Numbers read from and written into a slice of bytes, and the laws by which the loops that do so are proved. Assumes nothing.
-use Rattle.std.specs.Prelude.{ℕ, zero, suc, ◌+◌, ◌*◌, ◌^◌, ◌≤◌, ◌<◌, ◌≡◌, refl, List, [], ◌∷◌, ◌++◌, length, take, drop, get_or, set}
-use Rattle.std.proofs.Common.{sym, ap, ◌∙◌, append_assoc, append-nil, arith, add-one, add-zero, zero-mul, suc-mul, add-mul, one-mul, length-append, length-drop, length-set, take_at, take_all, take-suc, take-suc-set, length-take-le, get_or-take, get_or-drop, drop-cons, drop-drop}
+use Rattle.std.specs.Prelude.{ℕ, zero, suc, ◌+◌, ◌-◌, ◌*◌, ◌^◌, ◌≤◌, ◌<◌, ◌≡◌, refl, List, [], ◌∷◌, ◌++◌, length, take, drop, get_or, set}
+use Rattle.std.proofs.Common.{sym, ap, ◌∙◌, append_assoc, append-nil, arith, add-one, add-zero, zero-mul, suc-mul, add-mul, one-mul, length-append, take_at, take_all, take-suc, take-suc-set, length-take-le, drop-drop}
 use Rattle.std.proofs.Math.Nat.{one-le-pow}
 use Rattle.std.proofs.lemmas.List.Edits.{sets, sets-eq}
-use Rattle.lists.specs.Tables.{table}
-use Rattle.lists.specs.Laws.TablesLaws.{is_table}
-use Rattle.codec.specs.Bytes.{number, bytes, encode, decode}
+use borrow.Rule.Slice.PartMut.{put_mid}
+use Rattle.codec.specs.Bytes.{bytes, encode, decode_as}
 use Rattle.codec.specs.Laws.BytesLaws.{Below, below_one, below_append, length_bytes, encode_append}
 
 -- ---- reading
 
--- the bytes at a place, one by one, as code reads them
-pub window : (k at : ℕ) (s : List ℕ) → at + suc k ≤ length s → take (suc k) (drop at s) ≡ get_or s at 0 ∷ table k (λ i. get_or s (at + suc i) 0)
-window k at s h =
-    let e : (i : ℕ) → suc at + i ≡ at + suc i = λ i. omega arith in
-    let size : length (take k (drop (suc at) s)) ≡ k = length-take-le k (drop (suc at) s) (omega (arith, length-drop (suc at) s)) in
-    ap (take (suc k)) (drop-cons s at 0 (omega arith)) ∙
-    ap (λ (l : List ℕ). get_or s at 0 ∷ l)
-    (is_table 0 k _ (take k (drop (suc at) s)) size
-    (λ i l. get_or-take k (drop (suc at) s) i 0 l ∙ get_or-drop (suc at) s i 0 ∙ ap (λ (j : ℕ). get_or s j 0) (e i)))
-
-last_number : (k n : ℕ) (s : List ℕ) → decode k (suc n) s ≡ decode k n s ++ (number (take k (drop (n * k) s)) ∷ [])
-unfolding decode
-last_number k zero s = rw zero-mul
-last_number k (suc n) s =
+last_number : {X : Type 0} (of : List ℕ → X) (k n : ℕ) (s : List ℕ) → decode_as of k (suc n) s ≡ decode_as of k n s ++ (of (take k (drop (n * k) s)) ∷ [])
+unfolding decode_as
+last_number of k zero s = rw zero-mul
+last_number {X = X} of k (suc n) s =
     let e : k + n * k ≡ suc n * k = omega (arith, suc-mul n k) in
-    rw (← e, ← (drop-drop (n * k) k s)) (ap (λ (l : List ℕ). number (take k s) ∷ l) (last_number k n (drop k s)))
+    rw (← e, ← (drop-drop (n * k) k s)) (ap (λ (l : List X). of (take k s) ∷ l) (last_number of k n (drop k s)))
 
--- The invariant of a loop that reads n numbers from the bytes s into out: i are read.
-pub record Reading (k n : ℕ) (s : List ℕ) (i : ℕ) (out : List ℕ) : Type 0 where
-  pub within : i ≤ n
-  pub size : length out ≡ n
-  pub is : take i out ≡ decode k i s
-
-pub read_start : {k n : ℕ} {s out : List ℕ} → length out ≡ n → Reading k n s 0 out
-unfolding decode
-read_start e = record { within = omega arith; size = e; is = refl }
-
-pub read_step : {k n i v : ℕ} {s out : List ℕ} → Reading k n s i out → i < n → v ≡ number (take k (drop (i * k) s)) → Reading k n s (i + 1) (set out i v)
-read_step {k} {n} {i} {v} {s} {out} r h e =
-    let b : i < length out = omega (arith, r.size) in
-    record { within = omega arith; size = length-set out i v ∙ r.size; is = rw (add-one, take-suc-set out i v b, r.is, e, last_number k i s) }
-
-pub read_done : {k n i : ℕ} {s out : List ℕ} → Reading k n s i out → n ≤ i → out ≡ decode k n s
-read_done {k} {n} {i} {s} {out} r h =
-    let e : i ≡ n = omega (arith, r.within) in
-    sym (take_all n out (omega (arith, r.size))) ∙ (rw e at r.is)
+-- one more number is read
+pub read_more : {X : Type 0} (of : List ℕ → X) (k i : ℕ) (s : List ℕ) (out : List X) (v : X) →
+    take i out ≡ decode_as of k i s → i < length out → v ≡ of (take k (drop (i * k) s)) → take (i + 1) (set out i v) ≡ decode_as of k (i + 1) s
+read_more of k i s out v h b e = rw (add-one, take-suc-set out i v b, h, e, last_number of k i s)
 
 -- ---- writing
 
@@ -95,16 +69,8 @@ put_more {k} {at} {s} {t} {u} ws i h p q =
 pub put_all : {k n : ℕ} {ws s t : List ℕ} → Put k 0 n ws s t → length t ≡ n * k → t ≡ encode k ws
 put_all {k} {n} {ws} {s} {t} p e = sym (take_all (n * k) t (omega arith)) ∙ p.is ∙ rw zero-mul
 
--- eight stores, as code writes them
-pub stores : (s : List ℕ) (at a b c d e f g h : ℕ) →
-    set (set (set (set (set (set (set (set s at a) (at + 1) b) (at + 2) c) (at + 3) d) (at + 4) e) (at + 5) f) (at + 6) g) (at + 7) h ≡
-    sets s at (a ∷ b ∷ c ∷ d ∷ e ∷ f ∷ g ∷ h ∷ [])
-stores s at a b c d e f g h =
-    let e1 : at + 1 ≡ suc at = omega arith in
-    let e2 : at + 2 ≡ suc (suc at) = omega arith in
-    let e3 : at + 3 ≡ suc (suc (suc at)) = omega arith in
-    let e4 : at + 4 ≡ suc (suc (suc (suc at))) = omega arith in
-    let e5 : at + 5 ≡ suc (suc (suc (suc (suc at)))) = omega arith in
-    let e6 : at + 6 ≡ suc (suc (suc (suc (suc (suc at))))) = omega arith in
-    let e7 : at + 7 ≡ suc (suc (suc (suc (suc (suc (suc at)))))) = omega arith in
-    cc
+-- the bytes that stood in the stretch of one number, written over
+pub put_over : (a k : ℕ) (s ys : List ℕ) → length ys ≡ k → a + k ≤ length s → put_mid a (a + k - a) s ys ≡ sets s a ys
+put_over a k s ys e l =
+    let size : a + k - a ≡ length ys = omega arith in
+    rw (size, sets-eq ys s a (omega arith), drop-drop) (sym (append_assoc (take a s) ys (drop (a + length ys) s)))

@@ -1,6 +1,6 @@
 -- Laws of lists given by a rule, and those by which a loop that fills a list is proved. Assumes nothing.
-use Rattle.std.specs.Prelude.{◌≡◌, refl, List, [], ◌∷◌, ◌++◌, ℕ, zero, suc, ◌+◌, ◌-◌, ◌≤◌, ◌<◌, length, drop, set, get_or, replicate}
-use Rattle.std.proofs.Common.{ap, sym, ◌∙◌, ⊎_elim, append_assoc, append-nil, add-one, eq-or-lt_of_le, eq-zero-or-pos, arith, length-append, length-drop, drop_of_length-le, ext_get_or, get_or-append-add, get_or-drop, drop-cons}
+use Rattle.std.specs.Prelude.{◌≡◌, refl, List, [], ◌∷◌, ◌++◌, ℕ, zero, suc, ◌+◌, ◌-◌, ◌≤◌, ◌<◌, length, take, drop, set, get_or, replicate}
+use Rattle.std.proofs.Common.{ap, sym, ◌∙◌, ⊎_elim, append_assoc, append-nil, add-one, eq-or-lt_of_le, eq-zero-or-pos, arith, length-append, length-drop, drop_of_length-le, ext_get_or, get_or-append-add, get_or-take, get_or-drop, length-take-le, drop-cons}
 use Rattle.std.proofs.Math.ListN.{get_or-append, get_or-eq_default}
 use Rattle.std.proofs.lemmas.List.{get_or_at, set_at}
 use Rattle.lists.specs.Tables.{table}
@@ -23,6 +23,10 @@ get_or_table (suc n) f k d h =
 pub is_table : {A : Type 0} (d : A) (n : ℕ) (f : ℕ → A) (l : List A) → length l ≡ n → ((k : ℕ) → k < n → get_or l k d ≡ f k) → l ≡ table n f
 is_table d n f l e h =
     ext_get_or d l (table n f) (e ∙ sym (length_table n f)) (λ k b. h k (omega arith) ∙ sym (get_or_table n f k d (omega arith)))
+
+-- the first n places of a list, by the rule that reads it
+pub take_table : {A : Type 0} (d : A) (n : ℕ) (l : List A) → n ≤ length l → take n l ≡ table n (λ i. get_or l i d)
+take_table d n l h = is_table d n _ (take n l) (length-take-le n l h) (λ i b. get_or-take n l i d b)
 
 pub table_same : {A : Type 0} (n : ℕ) (f g : ℕ → A) → ((k : ℕ) → k < n → f k ≡ g k) → table n f ≡ table n g
 unfolding table

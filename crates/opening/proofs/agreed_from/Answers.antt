@@ -1,5 +1,4 @@
 -- `opening::agreed_from` meets its contract: each part is the list that `column` reads. Assumes nothing.
-use borrow.Author.Rules.{rules}
 use Rattle.agreement_rules.specs.Laws.AgreedParts.{agreed_from}
 use Rattle.opening.proofs.agreed_from.Goals as goal
 

@@ -1,6 +1,5 @@
 -- `opening::first_schedule` meets its contract: a list of ones put by rows is rank 1 for each pair, and 0 beyond. Assumes nothing.
 use mathlib.Core.Path.{refl}
-use borrow.Author.Rules.{rules}
 use Rattle.agreement_rules.specs.Laws.AgreedReadingLaws.{rows_of_128}
 use Rattle.agreement_rules.specs.Laws.AgreedPartsLaws.{first_schedule_lem}
 use Rattle.opening.proofs.first_schedule.Goals as goal

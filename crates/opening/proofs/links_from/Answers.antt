@@ -1,5 +1,4 @@
 -- `opening::links_from` meets its contract: the first half of the list are the links, the second the losses. Assumes nothing.
-use borrow.Author.Rules.{rules}
 use Rattle.agreement_rules.specs.Laws.AgreedPartsLaws.{links_from_lem}
 use Rattle.opening.proofs.links_from.Goals as goal
 

@@ -1,6 +1,5 @@
 -- `opening::store_opened` meets its contract: the parts that the rules store of a permitted opening, one after the other, fill the record's bytes. Assumes nothing.
 use mathlib.Core.Path.{ap, sym, ◌∙◌}
-use borrow.Author.Rules.{rules}
 use Rattle.codec.specs.Bytes.{encode}
 use Rattle.record.specs.RecordWords.{words}
 use Rattle.record.specs.declared.Record.{Record}

@@ -1,5 +1,4 @@
 -- `opening::zero_record` meets its contract: every part is zeros. Assumes nothing.
-use borrow.Author.Rules.{rules}
 use Rattle.agreement_rules.specs.Laws.AgreedPartsLaws.{zero_parts}
 use Rattle.opening.proofs.zero_record.Goals as goal
 

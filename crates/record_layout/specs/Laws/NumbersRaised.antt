@@ -37,6 +37,12 @@ module _ (at f : ℕ → ℕ) (ws : List ℕ) where
   length_raised zero = refl
   length_raised (suc n) = length-set (raised at n f ws) (at n) _ ∙ length_raised n
 
+  -- by a rule that gives the same for each i below n
+  pub raised_same : (h : ℕ → ℕ) (n : ℕ) → ((i : ℕ) → i < n → f i ≡ h i) → raised at n f ws ≡ raised at n h ws
+  unfolding raised
+  raised_same h zero e = refl
+  raised_same h (suc n) e = rw (raised_same h n (λ i l. e i (omega arith)), e n (omega arith)) refl
+
   -- a number at no such place stays
   pub raised_other : (n k : ℕ) → ((i : ℕ) → i < n → k ≡ at i → ⊥) → get_or (raised at n f ws) k 0 ≡ get_or ws k 0
   unfolding raised

@@ -27,6 +27,12 @@ module _ (at f : ℕ → ℕ) (ws : List ℕ) where
   unfolding replaced
   replaced_more i = rw add-one
 
+  -- by a rule that gives the same for each i below n
+  pub replaced_same : (h : ℕ → ℕ) (n : ℕ) → ((i : ℕ) → i < n → f i ≡ h i) → replaced at n f ws ≡ replaced at n h ws
+  unfolding replaced
+  replaced_same h zero e = refl
+  replaced_same h (suc n) e = rw (replaced_same h n (λ i l. e i (omega arith)), e n (omega arith)) refl
+
   length_replaced : (n : ℕ) → length (replaced at n f ws) ≡ length ws
   unfolding replaced
   length_replaced zero = refl

@@ -1,19 +1,18 @@
--- `record_runs::row_sum` meets its contract: the sum so far is that of the numbers passed, each at most `most_figure`. Assumes nothing.
-use Prim.Native.Nat.{◌+◌, ◌*◌}
-use mathlib.Core.Path.{refl}
-use native.Mathlib.Omega.{arith}
-use borrow.Author.Rules.{rules}
-use Rattle.lists.specs.Laws.SumsLaws.{sum_start, sum_step, sum_done}
+-- `record_runs::row_sum` meets its contract: the chain gives the numbers of the row. Assumes nothing.
+use Rattle.std.proofs.Common.{rules, arith, get_or, ◌+◌, ◌*◌}
+use Rattle.lists.specs.Laws.RangeLaws.{gives_range, range_fits, range_sum}
+use Rattle.record_runs.specs.Laws.RaiseLaws.{row_cap}
 use Rattle.record_runs.proofs.row_sum.Goals as goal
 
-pub loop-c-init : goal.loop-c-init
-loop-c-init c = sum_start
+pub sum-requires-clause-fits : goal.sum-requires-clause-fits
+sum-requires-clause-fits c =
+    let a = c.args in
+    range_fits (gives_range (λ k. get_or a.xs.now (a.first + (a.g * a.m + k)) 0) c.map.ensures.source c.map.ensures.closure (λ i r q called. search rules))
+    (omega (arith, row_cap a.m a.first a.g c.requires.1.1))
 
-pub overflow_add-sum-in-loop-c-2 : goal.overflow_add-sum-in-loop-c-2
-overflow_add-sum-in-loop-c-2 c = let l = c.loop-c in omega (arith, l.invariant.cap, c.requires.1.1.at (c.args.first + (c.args.g * c.args.m + l.c)))
+pub returns-clause-sum : goal.returns-clause-sum
+returns-clause-sum c =
+    range_sum (gives_range _ c.map.ensures.source c.map.ensures.closure (λ i r q called. search rules)) c.sum.ensures.ran
 
-pub loop-c-preserved : goal.loop-c-preserved
-loop-c-preserved c = let l = c.loop-c in sum_step l.invariant (search rules) refl (c.requires.1.1.at (c.args.first + (c.args.g * c.args.m + l.c)))
-
-pub returns : goal.returns
-returns c = sum_done c.loop-c.invariant (search rules)
+pub returns-clause-moderate : goal.returns-clause-moderate
+returns-clause-moderate c = omega (arith, returns-clause-sum c, row_cap c.args.m c.args.first c.args.g c.requires.1.1)

@@ -1,5 +1,5 @@
--- Numbers of the record raised, by lists and by the sums of their rows and columns, or replaced where they stand in its bytes. Assumes nothing.
-use Rattle.std.specs.Prelude.{ℕ, ◌+◌, ◌*◌, ◌≤◌, ◌≡◌, List, length, get_or}
+-- Numbers of the record raised or replaced where they stand in its bytes, by what calls give; sums of rows and columns of a list. Assumes nothing.
+use Rattle.std.specs.Prelude.{ℕ, ◌+◌, ◌*◌, ◌≤◌, ◌<◌, ◌≡◌, List, length, get_or}
 use Rattle.lists.specs.Sums.{sum}
 use Rattle.energy.specs.Limits.{most_figure}
 use Rattle.output_lists.specs.Laws.Bounds.{Moderate}
@@ -29,6 +29,12 @@ pub record Raised (at : ℕ → ℕ) (n : ℕ) (f : ℕ → ℕ) (s t : List ℕ
   pub size : length t ≡ length s
   pub is : words_in t ≡ raised at n f (words_in s)
 
+-- the bytes s became t: to the number at place `at i`, for each i below n, a result was added that a call at i may give
+pub record RaisedBy (gives : ℕ → ℕ → Type 0) (at : ℕ → ℕ) (n : ℕ) (s t : List ℕ) : Type 0 where
+  pub added : ℕ → ℕ
+  pub given : (i : ℕ) → i < n → gives i (added i)
+  pub is : Raised at n added s t
+
 -- the numbers from place p on are at most b
 pub record Low (p b : ℕ) (ws : List ℕ) : Type 0 where
   pub at : (k : ℕ) → p ≤ k → get_or ws k 0 ≤ b
@@ -49,6 +55,12 @@ most_raised = 16 * most_figure
 pub record Replaced (at : ℕ → ℕ) (n : ℕ) (f : ℕ → ℕ) (s t : List ℕ) : Type 0 where
   pub size : length t ≡ length s
   pub is : words_in t ≡ replaced at n f (words_in s)
+
+-- the bytes s became t: the number at place `at i`, for each i below n, is now a result that a call at i may give
+pub record ReplacedBy (gives : ℕ → ℕ → Type 0) (at : ℕ → ℕ) (n : ℕ) (s t : List ℕ) : Type 0 where
+  pub put : ℕ → ℕ
+  pub given : (i : ℕ) → i < n → gives i (put i)
+  pub is : Replaced at n put s t
 
 -- n numbers of the record from place p on
 pub record Replaceable (p n : ℕ) (s : List ℕ) : Type 0 where

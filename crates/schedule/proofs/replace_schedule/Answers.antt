@@ -1,7 +1,6 @@
 -- `schedule::replace_schedule` meets its contract: both lists of the schedule are replaced. Assumes nothing.
 use mathlib.Core.Path.{◌∙◌}
 use native.Mathlib.Omega.{arith}
-use borrow.Author.Rules.{rules}
 use Rattle.schedule.specs.Laws.ScheduleEntered.{kw_rows, rank_rows, bytes_after}
 use Rattle.schedule.proofs.replace_schedule.Goals as goal
 

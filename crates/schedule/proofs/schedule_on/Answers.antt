@@ -1,18 +1,10 @@
 -- `schedule::schedule_on` meets its contract: an accepted schedule replaces the former one, a refused one changes nothing. Assumes nothing.
-use mathlib.Core.Path.{sym, ◌∙◌}
-use borrow.Author.Rules.{rules}
-use Rattle.schedule.specs.Laws.ScheduleEntered.{accepted_here, schedule_accepted, schedule_refused}
+use Rattle.std.proofs.lemmas.Result.{err_from_is_err_and}
+use Rattle.refusal.specs.Laws.NumbersLaws.{number_not_0}
+use Rattle.record_layout.specs.Laws.OnBytesLaws.{on_refused}
 use Rattle.schedule.proofs.schedule_on.Goals as goal
 
-pub replace_schedule-requires : goal.replace_schedule-requires
-replace_schedule-requires c =
-    accepted_here _ _ _
-    (record { whole = search rules; terms_are = c.load_terms-terms.ensures; counts_are = c.load_counts-counts.ensures })
-    (sym c.refusal_on-number.ensures ∙ c.if-number-eq0.true)
-
-pub returns-then-number-eq0 : goal.returns-then-number-eq0
-returns-then-number-eq0 c =
-    schedule_accepted _ _ _ (sym c.refusal_on-number.ensures ∙ c.if-number-eq0.true) c.replace_schedule.ensures
-
-pub returns : goal.returns
-returns c = schedule_refused _ _ _ c.refusal_on-number.ensures c.if-number-eq0.false
+pub returns-in_err-check_on : goal.returns-in_err-check_on
+returns-in_err-check_on c =
+    let p = err_from_is_err_and c.from_residual.result c.from_residual.ensures.1 in
+    rw (p.1, p.2) (on_refused _ _ _ c.in_err-check_on.ensures (number_not_0 _))

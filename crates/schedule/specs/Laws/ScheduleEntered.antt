@@ -26,7 +26,7 @@ use Rattle.record_layout.specs.Laws.Layout.{run, links_at}
 use Rattle.record_layout.specs.Laws.LayoutLaws.{bytes_of_record}
 use Rattle.record_layout.specs.Laws.RecordHead.{HeadRead}
 use Rattle.record_layout.specs.OnBytes.{record_in, CalledOn, book_in}
-use Rattle.record_layout.specs.Laws.OnBytesLaws.{on_accepted, on_refused}
+use Rattle.record_layout.specs.Laws.OnBytesLaws.{on_accepted}
 use Rattle.record_layout.specs.Laws.NumbersRaised.{from}
 use Rattle.record_layout.specs.Laws.NumbersReplaced.{replaced, list_replaced}
 use Rattle.agreement_rules.specs.Laws.AgreedReading.{RowsAt}
@@ -122,6 +122,3 @@ module _ (s kws ranks : List ℕ) where
       CalledOn (schedule_rule kws ranks) s [] 0 s' []
   unfolding schedule_rule
   schedule_accepted z e = on_accepted _ s [] refl z e refl
-
-  pub schedule_refused : {n : ℕ} → n ≡ number_on (schedule_rule kws ranks) r → (n ≡ 0 → ⊥) → CalledOn (schedule_rule kws ranks) s [] n s []
-  schedule_refused e not-0 = on_refused _ s [] e not-0

@@ -1,13 +1,8 @@
 -- `schedule_refusal::off_link` meets its contract: after g turns it is known whether one of the first g rows has kW off its links. Assumes nothing.
-use Prim.Native.Nat.{◌-◌}
-use mathlib.Core.Bool.{◌&&◌}
 use mathlib.Core.Path.{◌∙◌}
 use native.Mathlib.Omega.{arith}
-use lib.Dec.{eqb, ltb}
 use borrow.Author.Rules.{rules}
-use Rattle.lists.specs.Pairs.{cell}
-use Rattle.lists.specs.Tests.{some}
-use Rattle.lists.specs.Laws.TestsLaws.{Looking, look_start, look_step, look_done}
+use Rattle.lists.specs.Laws.TestsLaws.{look_start, look_step, look_done}
 use Rattle.agreement_rules.specs.Laws.AgreedReadingLaws.{first_row_at}
 use Rattle.agreement_rules.specs.Laws.AgreedRefusals.{off_link}
 use Rattle.agreement_rules.specs.Laws.AgreedRefusalsLaws.{row_off}

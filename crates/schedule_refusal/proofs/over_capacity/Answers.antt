@@ -1,10 +1,9 @@
 -- `schedule_refusal::over_capacity` meets its contract: after g turns it is known whether one of the first g generators is over a capacity. Assumes nothing.
-use Prim.Native.Nat.{◌-◌}
 use native.Mathlib.Omega.{arith}
 use borrow.Author.Rules.{rules}
-use Rattle.lists.specs.Laws.TestsLaws.{Looking, look_start, look_step, look_done}
+use Rattle.lists.specs.Laws.TestsLaws.{look_start, look_step, look_done}
 use Rattle.agreement_rules.specs.Laws.AgreedReadingLaws.{first_row_at}
-use Rattle.agreement_rules.specs.Laws.AgreedRefusals.{over_at, over_capacity}
+use Rattle.agreement_rules.specs.Laws.AgreedRefusals.{over_capacity}
 use Rattle.agreement_rules.specs.Laws.AgreedRefusalsLaws.{row_over}
 use Rattle.schedule_refusal.proofs.over_capacity.Goals as goal
 

@@ -1,11 +1,7 @@
 -- `schedule_refusal::row_off_link` meets its contract: after c turns it is known whether one of the first c pairs has kW and no link. Assumes nothing.
-use Prim.Native.Nat.{◌-◌, ◌+◌, ◌*◌}
-use mathlib.Core.Bool.{◌&&◌}
 use mathlib.Core.Path.{refl}
-use lib.Dec.{eqb, ltb}
-use lib.ListN.{get_or}
 use borrow.Author.Rules.{rules}
-use Rattle.lists.specs.Laws.TestsLaws.{Looking, look_start, look_step, look_done}
+use Rattle.lists.specs.Laws.TestsLaws.{look_start, look_step, look_done}
 use Rattle.schedule_refusal.proofs.row_off_link.Goals as goal
 
 pub loop-c-init : goal.loop-c-init

@@ -6,9 +6,9 @@ use Rattle.lists.specs.Tables.{table}
 use Rattle.sharing.specs.Laws.ShareLaws.{shared_over_energy, shared_over_capacity, shared_none, shared_within}
 use Rattle.sharing.proofs.share.Goals as goal
 
-pub returns-then-wide-gt-MOST_READING : goal.returns-then-wide-gt-MOST_READING
+pub returns-then-from-gt-MOST_READING : goal.returns-then-from-gt-MOST_READING
 unfolding table
-returns-then-wide-gt-MOST_READING c = shared_over_energy _ _ (omega (arith, c.wide.ensures))
+returns-then-from-gt-MOST_READING c = shared_over_energy _ _ (omega (arith, c.from.ensures))
 
 pub returns-then-all-gt-MOST_CAPACITY : goal.returns-then-all-gt-MOST_CAPACITY
 unfolding table

@@ -1,5 +1,4 @@
 -- The loop of `soundness::agreed_all_sound`: what lasts from turn to turn, and what falls.
-use Prim.Native.Nat.{◌-◌}
 use lib.Dec.{ltb}
 use Rattle.lists.specs.Laws.TestsLaws.{Testing}
 use Rattle.record.specs.Sound.{limit}
@@ -9,6 +8,3 @@ use Rattle.soundness.proofs.agreed_all_sound.Given as goal
 
 abbrev pub invariant-loop-g : goal.invariant-loop-g
 invariant-loop-g l = Testing 8 (λ h. agreed_test (record_in l.s).agreed (record_in l.s).schedule.kw l.n (limit (ltb h l.n) l.m) h) l.g l.ok
-
-abbrev pub decreases-loop-g : goal.decreases-loop-g
-decreases-loop-g l = 8 - l.g

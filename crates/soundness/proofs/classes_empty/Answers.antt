@@ -1,13 +1,9 @@
 -- `soundness::classes_empty` meets its contract. The invariant: `bits` is 0 where each number passed is 0 in all classes. Assumes nothing.
-use Prim.Native.Nat.{◌-◌}
 use mathlib.Core.Bool.{false}
 use mathlib.Core.Path.{refl}
-use lib.Dec.{eqb}
 use borrow.Author.Rules.{rules}
-use Rattle.lists.specs.Laws.TestsLaws.{Testing, test_start, test_step, test_done}
-use Rattle.record.specs.Sound.{classes_sound}
+use Rattle.lists.specs.Laws.TestsLaws.{test_start, test_step, test_done}
 use Rattle.sound_items.specs.Laws.HoursTests.{classes_next}
-use Rattle.soundness.specs.Laws.ClassesHeld.{class_total}
 use Rattle.soundness.specs.Laws.ClassesHeldLaws.{class_held, none_held}
 use Rattle.soundness.proofs.classes_empty.Goals as goal
 

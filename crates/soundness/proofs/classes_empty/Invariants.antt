@@ -1,5 +1,4 @@
 -- The loop of `soundness::classes_empty`: what lasts from turn to turn, and what falls.
-use Prim.Native.Nat.{◌-◌}
 use mathlib.Core.Bool.{false}
 use lib.Dec.{eqb}
 use Rattle.lists.specs.Laws.TestsLaws.{Testing}
@@ -9,6 +8,3 @@ use Rattle.soundness.proofs.classes_empty.Given as goal
 
 abbrev pub invariant-loop-j : goal.invariant-loop-j
 invariant-loop-j l = Testing 32 (λ i. classes_sound false 0 (class_total l.s i)) l.j (eqb l.bits 0)
-
-abbrev pub decreases-loop-j : goal.decreases-loop-j
-decreases-loop-j l = 32 - l.j

@@ -1,5 +1,4 @@
 -- `soundness::consumer_terms` meets its contract: each term is read at its place.
-use borrow.Author.Rules.{rules}
 use Rattle.soundness.specs.Laws.PlacesHeldLaws.{consumer_held}
 use Rattle.soundness.proofs.consumer_terms.Goals as goal
 

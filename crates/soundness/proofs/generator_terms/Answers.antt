@@ -1,5 +1,4 @@
 -- `soundness::generator_terms` meets its contract: each term is read at its place.
-use borrow.Author.Rules.{rules}
 use Rattle.soundness.specs.Laws.PlacesHeldLaws.{generator_held}
 use Rattle.soundness.proofs.generator_terms.Goals as goal
 

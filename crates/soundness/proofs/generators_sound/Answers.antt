@@ -1,10 +1,8 @@
 -- `soundness::generators_sound` meets its contract. The invariant: `ok` says whether each generator passed is sound.
-use Prim.Native.Nat.{◌-◌}
 use mathlib.Core.Path.{◌∙◌}
 use borrow.Author.Rules.{rules}
-use Rattle.lists.specs.Laws.TestsLaws.{Testing, test_start, test_step, test_done}
-use Rattle.sound_items.specs.Laws.SoundTests.{generator_test, generator_here}
-use Rattle.record_layout.specs.OnBytes.{record_in}
+use Rattle.lists.specs.Laws.TestsLaws.{test_start, test_step}
+use Rattle.sound_items.specs.Laws.SoundTests.{generator_here}
 use Rattle.soundness.proofs.generators_sound.Goals as goal
 
 pub loop-g-init : goal.loop-g-init
@@ -14,6 +12,3 @@ pub loop-g-preserved : goal.loop-g-preserved
 loop-g-preserved c =
     test_step c.loop-g.invariant (search rules)
     (c.generator_sound-ok.ensures ∙ rw c.generator_terms.ensures (generator_here _ _ _ _ (search rules)))
-
-pub returns : goal.returns
-returns c = test_done c.loop-g.invariant (search rules)

@@ -1,7 +1,6 @@
 -- `soundness::is_sound` meets its contract: the tests of the parts make up `sound`, and where the counts fail so does the whole.
 use mathlib.Core.Bool.{true}
 use mathlib.Core.Path.{◌≡◌, ◌∙◌, sym}
-use borrow.Author.Rules.{rules}
 use Rattle.sound_items.specs.Laws.SoundTests.{counts_test, CountsFit, counts_fit}
 use Rattle.soundness.specs.Laws.PlacesHeldLaws.{sound_held, unsound_held}
 use Rattle.soundness.proofs.is_sound.Goals as goal
@@ -29,9 +28,6 @@ consumers_sound-requires c =
     let passed : let a = c.args in counts_test a.terms a.counts ≡ true = sym c.counts_sound.ensures ∙ c.if-counts_sound.true in
     let fit : let a = c.args in CountsFit a.terms.generators a.terms.consumers a.counts.unitblocks = counts_fit _ _ passed in
     (c.requires.whole, fit.blocks_fit)
-
-pub hours_sound-requires : goal.hours_sound-requires
-hours_sound-requires c = let p = c.requires in (p.whole, p.counts_are)
 
 pub returns-then-counts_sound : goal.returns-then-counts_sound
 returns-then-counts_sound c =

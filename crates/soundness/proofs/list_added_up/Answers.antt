@@ -1,13 +1,9 @@
 -- `soundness::list_added_up` meets its contract. The invariant: `ok` says whether each place passed is the sum of its classes. Assumes nothing.
-use Prim.Native.Nat.{◌+◌, ◌-◌}
 use mathlib.Core.Bool.{true}
 use mathlib.Core.Path.{◌∙◌}
-use lib.ListN.{get_or}
 use borrow.Author.Rules.{rules}
-use Rattle.lists.specs.Laws.TestsLaws.{Testing, test_start, test_step, test_done}
-use Rattle.record.specs.Sound.{classes_sound}
-use Rattle.record_places.specs.RecordSize.{words_in}
-use Rattle.soundness.specs.Laws.ClassesHeld.{class_total, list_held}
+use Rattle.lists.specs.Laws.TestsLaws.{test_start, test_step, test_done}
+use Rattle.soundness.specs.Laws.ClassesHeld.{list_held}
 use Rattle.soundness.specs.Laws.ClassesHeldLaws.{class_held}
 use Rattle.soundness.proofs.list_added_up.Goals as goal
 

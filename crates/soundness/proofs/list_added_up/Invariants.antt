@@ -1,5 +1,5 @@
 -- The loop of `soundness::list_added_up`: what lasts from turn to turn, and what falls.
-use Prim.Native.Nat.{◌+◌, ◌-◌}
+use Prim.Native.Nat.{◌+◌}
 use mathlib.Core.Bool.{true}
 use lib.ListN.{get_or}
 use Rattle.lists.specs.Laws.TestsLaws.{Testing}
@@ -10,6 +10,3 @@ use Rattle.soundness.proofs.list_added_up.Given as goal
 
 abbrev pub invariant-loop-i : goal.invariant-loop-i
 invariant-loop-i l = Testing l.n (λ j. classes_sound true (get_or (words_in l.s) (l.at + j) 0) (class_total l.s (l.first + j))) l.i l.ok
-
-abbrev pub decreases-loop-i : goal.decreases-loop-i
-decreases-loop-i l = l.n - l.i

@@ -1,7 +1,6 @@
 -- `soundness::pair_within` meets its contract: the test of the four numbers of a pair.
 use mathlib.Core.Bool.{true}
 use mathlib.Core.Path.{◌∙◌}
-use borrow.Author.Rules.{rules}
 use Rattle.soundness.specs.Laws.PlacesHeldLaws.{pair_held_lem}
 use Rattle.soundness.proofs.pair_within.Goals as goal
 

@@ -1,9 +1,6 @@
 -- `soundness::pairs_sound` meets its contract. The invariant: `ok` says whether each row passed is sound.
-use Prim.Native.Nat.{◌+◌, ◌-◌, ◌*◌}
-use lib.Dec.{ltb}
 use borrow.Author.Rules.{rules}
-use Rattle.lists.specs.Tests.{all}
-use Rattle.lists.specs.Laws.TestsLaws.{Testing, test_start, test_step, test_done}
+use Rattle.lists.specs.Laws.TestsLaws.{test_start, test_step, test_done}
 use Rattle.sound_items.specs.Laws.SoundTests.{pairs_here}
 use Rattle.soundness.specs.Laws.PairHeld.{pair_held}
 use Rattle.soundness.proofs.pairs_sound.Goals as goal

@@ -1,8 +1,6 @@
 -- `soundness::row_sound` meets its contract. The invariant: `ok` says whether each pair passed is sound.
-use Prim.Native.Nat.{◌+◌, ◌-◌, ◌*◌}
-use mathlib.Core.Bool.{true}
 use borrow.Author.Rules.{rules}
-use Rattle.lists.specs.Laws.TestsLaws.{Testing, test_start, test_step, test_done}
+use Rattle.lists.specs.Laws.TestsLaws.{test_start, test_step, test_done}
 use Rattle.sound_items.specs.Laws.SoundTests.{row_here}
 use Rattle.soundness.specs.Laws.PairHeld.{pair_held}
 use Rattle.soundness.proofs.row_sound.Goals as goal

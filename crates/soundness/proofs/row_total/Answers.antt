@@ -1,11 +1,8 @@
 -- `soundness::row_total` meets its contract: the capped kW of a row stand for their sum. The invariant: so do those passed.
-use Prim.Native.Nat.{◌-◌}
 use mathlib.Core.Path.{sym, ◌∙◌}
 use borrow.Author.Rules.{rules}
-use Rattle.lists.specs.Pairs.{cell}
 use Rattle.lists.specs.Laws.PairsLaws.{cell_in}
-use Rattle.sound_items.specs.Laws.CappedLaws.{Adding, add_start, add_step, add_done}
-use Rattle.record_layout.specs.OnBytes.{record_in}
+use Rattle.sound_items.specs.Laws.CappedLaws.{add_start, add_step}
 use Rattle.soundness.specs.Laws.PlacesHeldLaws.{kw_held}
 use Rattle.soundness.proofs.row_total.Goals as goal
 
@@ -17,6 +14,3 @@ loop-c-preserved c =
     add_step c.loop-c.invariant (search rules)
     (cell_in 8 16 _ _ _ (search rules) (search rules) ∙ sym (c.number_at.ensures ∙ kw_held _ _ (search rules)))
     c.capped-total.ensures
-
-pub returns : goal.returns
-returns c = record { cut = add_done c.loop-c.invariant (search rules) }

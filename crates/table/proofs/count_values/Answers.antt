@@ -1,13 +1,14 @@
--- `table::count_values` meets its contract. The loop's invariant: the values passed and those to come are all the values. Assumes nothing.
-use Rattle.std.proofs.Common.{get_or, arith}
-use Rattle.table.specs.Laws.ReaderLoops.{ended_few, count_step, count_done}
+-- `table::count_values` meets its contract: each byte that is no digit ends a value. Assumes nothing.
+use Rattle.std.specs.Prelude.{◌≡◌, not, count_by}
+use Rattle.std.specs.Char.{is_ascii_digit}
+use Rattle.std.proofs.Common.{sym, ◌∙◌, rules}
+use Rattle.lists.specs.Tests.{within}
+use Rattle.table_scan.specs.Values.{is_digit}
+use Rattle.table.specs.Laws.TableScanning.{length_numbers}
 use Rattle.table.proofs.count_values.Goals as goal
 
-pub overflow_add-k : goal.overflow_add-k
-overflow_add-k c = omega (arith, ended_few (get_or c.args.s.now c.loop-i.i 0))
-
-pub loop-i-preserved : goal.loop-i-preserved
-loop-i-preserved c = count_step c.loop-i.invariant c.loop-i-test.true c.values_ended-k.ensures
-
 pub returns : goal.returns
-returns c = count_done c.loop-i.invariant c.loop-i-test.false
+unfolding is_digit within
+returns c =
+    let e : c.count.result ≡ count_by (λ b. not (is_ascii_digit b)) c.args.s.now = search rules in
+    e ∙ sym (length_numbers 0 c.args.s.now)

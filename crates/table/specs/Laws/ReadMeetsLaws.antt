@@ -1,13 +1,13 @@
 -- What a caller of the reader may use: where its values stand, and what a refusal says. Assumes nothing.
-use Rattle.std.specs.Prelude.{ℕ, ◌+◌, ◌*◌, ◌/◌, ◌%◌, ◌≤◌, ◌<◌, ◌≡◌, refl, Bool, true, false, List, ◌++◌, eqb, length, take, drop, get_or, if◌then◌else◌}
-use Rattle.std.proofs.Common.{sym, ap, ◌∙◌, div-add-mod', mul-le-mul_right, suc-mul, arith, eq-eqb, eqb-true, length-append, length-drop, take-append-drop, get_or-take}
-use Rattle.std.proofs.lemmas.Bool.{eqb-false}
+use Rattle.std.specs.Prelude.{ℕ, ◌+◌, ◌*◌, ◌/◌, ◌%◌, ◌≤◌, ◌<◌, ◌≡◌, true, List, ◌++◌, length, take, drop, get_or, Result, Ok, Err}
+use Rattle.std.proofs.Common.{sym, ap, ◌∙◌, div-add-mod', mul-le-mul_right, suc-mul, arith, eq-eqb, ne_eqb, length-append, length-drop, take-append-drop, get_or-take}
 use Rattle.std.proofs.Math.Seq.{take-append_seam, drop-append_seam}
 use Rattle.std.proofs.lemmas.List.{take-append-le, drop-append-le}
 use Rattle.lists.specs.Laws.PairsLaws.{cell_index}
-use Rattle.table.specs.Table.{in_range, values, read_number, read_answer, from_start, read_output, ReadMeets}
+use Rattle.refusal.specs.declared.Refusal.{Refusal}
+use Rattle.refusal.specs.Laws.NumbersLaws.{number_some, one_refusal}
+use Rattle.table.specs.Table.{in_range, values, read_number, from_start, read_output, ReadMeets}
 use Rattle.table.specs.Laws.TableAccepting.{accepted, IsTable, accepts_only}
-use Rattle.table.specs.declared.Read.TheVariants.{Lines, Refused}
 
 -- What an answer of k lines says: the text is the table of k lines of g + c values, the values stand in the first k * (g + c)
 -- places of the output, line by line, and the other places are left.
@@ -19,19 +19,6 @@ pub record LinesRead (g c k : ℕ) (text out last : List ℕ) : Type 0 where
   pub start : take (k * (g + c)) last ≡ values g c text
   pub rest : drop (k * (g + c)) last ≡ drop (k * (g + c)) out
   pub size : length last ≡ length out
-
--- ---- an answer of lines is number 0
-
-lines_zero : (g c : ℕ) (text : List ℕ) (room k : ℕ) → Lines k ≡ read_answer g c text room
-    → (read_number g c text room ≡ 0) × (k ≡ length (values g c text) / (g + c))
-unfolding read_answer
-lines_zero g c text room k h = go (eqb (read_number g c text room) 0) refl h
-  where
-    go : (t : Bool) → eqb (read_number g c text room) 0 ≡ t
-        → Lines k ≡ (if t then Lines (length (values g c text) / (g + c)) else Refused (read_number g c text room))
-        → (read_number g c text room ≡ 0) × (k ≡ length (values g c text) / (g + c))
-    go true e h = (eqb-true (read_number g c text room) 0 e, cc)
-    go false e h = let z : ◌≡◌ {A = ℕ} 0 1 = cc in absurd (omega arith)
 
 output_zero : (g c : ℕ) (text out : List ℕ) → read_number g c text (length out) ≡ 0 → read_output g c text out ≡ values g c text ++ drop (length (values g c text)) out
 unfolding read_output from_start
@@ -47,14 +34,14 @@ part_before a n xs ys h =
 laid_size : (vs out : List ℕ) → length vs ≤ length out → length (vs ++ drop (length vs) out) ≡ length out
 laid_size vs out l = simp (length-append, length-drop) (omega arith)
 
-pub lines_read : {g c k : ℕ} {text out last : List ℕ} → ReadMeets g c text out (Lines k) last → LinesRead g c k text out last
+pub lines_read : {g c k : ℕ} {text out last : List ℕ} → ReadMeets g c text out (Ok k) last → LinesRead g c k text out last
 lines_read {g} {c} {k} {text} {out} {last} m =
-    let a = lines_zero g c text (length out) k m.answer in
-    let b = accepted g c text (length out) a.0 in
-    let t = accepts_only g c text (length out) a.0 in
+    let z : read_number g c text (length out) ≡ 0 = sym m.number in
+    let b = accepted g c text (length out) z in
+    let t = accepts_only g c text (length out) z in
     let vs = values g c text in
-    let q : k * (g + c) ≡ length vs = ap (λ (x : ℕ). x * (g + c)) a.1 ∙ whole (length vs) (g + c) t.whole in
-    let o : last ≡ vs ++ drop (length vs) out = m.output ∙ output_zero g c text out a.0 in
+    let q : k * (g + c) ≡ length vs = ap (λ (x : ℕ). x * (g + c)) m.lines ∙ whole (length vs) (g + c) t.whole in
+    let o : last ≡ vs ++ drop (length vs) out = m.output ∙ output_zero g c text out z in
     record {
       sizes_in_range = b.sizes_in_range;
       table = t;
@@ -67,7 +54,7 @@ lines_read {g} {c} {k} {text} {out} {last} m =
 
 -- ---- line by line, as blocks are entered: line i is the values from place i * (g + c) on
 
-module _ {g c k : ℕ} {text out last : List ℕ} (m : ReadMeets g c text out (Lines k) last) where
+module _ {g c k : ℕ} {text out last : List ℕ} (m : ReadMeets g c text out (Ok k) last) where
   -- line i lies within the output
   pub line_within : (i : ℕ) → i < k → i * (g + c) + (g + c) ≤ length last
   line_within i h = let r = lines_read m in omega (arith, r.room, r.size, mul-le-mul_right (g + c) h, suc-mul i (g + c))
@@ -88,16 +75,16 @@ module _ {g c k : ℕ} {text out last : List ℕ} (m : ReadMeets g c text out (L
 
 -- ---- refusals
 
--- a refusal has a number, and leaves the output unchanged
-pub refusal : {g c n : ℕ} {text out last : List ℕ} → ReadMeets g c text out (Refused n) last → (n ≡ 0 → ⊥) × (last ≡ out)
-unfolding read_answer read_output
-refusal {g} {c} {n} {text} {out} {last} m = go (eqb (read_number g c text (length out)) 0) refl m.answer m.output
-  where
-    go : (t : Bool) → eqb (read_number g c text (length out)) 0 ≡ t
-        → Refused n ≡ (if t then Lines (length (values g c text) / (g + c)) else Refused (read_number g c text (length out)))
-        → last ≡ (if t then from_start (values g c text) out else out)
-        → (n ≡ 0 → ⊥) × (last ≡ out)
-    go true e a o = let z : ◌≡◌ {A = ℕ} 0 1 = cc in absurd (omega arith)
-    go false e a o =
-        let q : n ≡ read_number g c text (length out) = cc in
-        (λ z. eqb-false (read_number g c text (length out)) 0 e (omega arith), o)
+-- a refusal leaves the output unchanged
+pub refusal : {g c : ℕ} {e : Refusal} {text out last : List ℕ} → ReadMeets g c text out (Err e) last → last ≡ out
+unfolding read_output
+refusal {g} {c} {e} {text} {out} {last} m =
+    m.output ∙ rw (ne_eqb (read_number g c text (length out)) 0 (λ z. omega (arith, m.number, number_some e)))
+
+-- ---- a call gives one answer and leaves one output
+
+pub one_answer : {g c : ℕ} {text out last end : List ℕ} (r q : Result ℕ Refusal) → ReadMeets g c text out r last → ReadMeets g c text out q end → (r ≡ q) × (last ≡ end)
+one_answer (Ok k) (Ok n) m l = (cc (m.lines, l.lines), cc (m.output, l.output))
+one_answer (Ok k) (Err e) m l = absurd (omega (arith, m.number, l.number, number_some e))
+one_answer (Err e) (Ok n) m l = absurd (omega (arith, m.number, l.number, number_some e))
+one_answer (Err e) (Err f) m l = (ap Err (one_refusal e f (m.number ∙ sym l.number)), cc (m.output, l.output))

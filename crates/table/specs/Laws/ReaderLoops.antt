@@ -1,16 +1,15 @@
 -- The steps and the invariants of the reader's loops. Assumes nothing.
 use Rattle.std.specs.Prelude.{ℕ, suc, ◌+◌, ◌-◌, ◌*◌, ◌≤◌, ◌<◌, ◌≡◌, refl, Bool, true, false, List, [], ◌∷◌, ◌++◌, leb, eqb, length, take, drop, get_or, set, if◌then◌else◌}
-use Rattle.std.proofs.Common.{sym, ap, ◌∙◌, append_assoc, add-one, arith, length-take, length-drop, length-append, drop_of_length-le, drop-cons, take-suc, take_all, get_or-take}
+use Rattle.std.proofs.Common.{sym, ap, ◌∙◌, append_assoc, add-one, arith, length-take, length-drop, length-append, drop_of_length-le, drop-cons, take-suc, take_all}
 use Rattle.std.proofs.lemmas.List.{set_at}
-use Rattle.std.proofs.Math.Seq.{take-length}
 use Rattle.table_text.specs.TableText.{separator_after}
 use Rattle.table_scan.specs.Values.{is_digit, largest}
-use Rattle.table_scan.specs.Laws.Scan.{add_digit, first_byte, later_byte, next_byte, values_ended, whole_lines, scan, values_in, value_so_far}
+use Rattle.table_scan.specs.Laws.Scan.{next_byte, values_ended, whole_lines, scan, value_so_far}
 use Rattle.table_scan.specs.declared.Progress.{Progress}
 use Rattle.table_scan.specs.declared.Progress.TheVariants.{Start, Digits, Malformed}
-use Rattle.table.specs.Table.{same, numbers, well_formed}
-use Rattle.table.specs.Laws.TableLaws.{never, numbers_digit, numbers_end, same_is, same_false}
-use Rattle.table.specs.Laws.TableScanning.{scan_malformed, scan_is, formed_scans, length_numbers}
+use Rattle.table.specs.Table.{numbers, well_formed}
+use Rattle.table.specs.Laws.TableLaws.{never, numbers_digit, numbers_end}
+use Rattle.table.specs.Laws.TableScanning.{scan_malformed, scan_is, formed_scans}
 
 -- ---- one byte
 
@@ -56,33 +55,12 @@ pub scan_done : {w : ℕ} {s : List ℕ} {at : Progress} {k i : ℕ} → Scanned
 unfolding scan
 scan_done {w} {s} {at} {k} {i} h l = sym (ap (λ (x : List ℕ). scan w k at x) (drop_of_length-le s {i = i} l)) ∙ h.is ∙ scan_is w s
 
--- ---- count_values: the values passed and those to come are all the values
-
-pub record Counted (s : List ℕ) (k i : ℕ) : Type 0 where
-  pub within : i ≤ length s
-  pub few : k ≤ i
-  pub is : k + values_in (drop i s) ≡ values_in s
-
-pub count_start : {s : List ℕ} → Counted s 0 0
-count_start {s} = record { within = omega arith; few = omega arith; is = omega arith }
-
-pub count_step : {s : List ℕ} {k i e : ℕ} → Counted s k i → i < length s → e ≡ values_ended (get_or s i 0) → Counted s (k + e) (i + 1)
-unfolding values_in
-count_step {s} {k} {i} {e} h l p =
-    let q : values_in (drop i s) ≡ values_ended (get_or s i 0) + values_in (drop (i + 1) s) = ap values_in (next_byte_lem s i l) in
-    record { within = omega arith; few = omega (arith, h.few, ended_few (get_or s i 0)); is = omega (arith, h.is) }
-
-pub count_done : {s : List ℕ} {k i : ℕ} → Counted s k i → length s ≤ i → k ≡ length (numbers 0 s)
-unfolding values_in
-count_done {s} {k} {i} h l =
-    let q : values_in (drop i s) ≡ 0 = ap values_in (drop_of_length-le s {i = i} l) in omega (arith, h.is, length_numbers 0 s)
-
 -- ---- write_values: the values passed are laid over the output as it was, first; what is to come holds the others
 
 -- while the text is read without fault, a digit goes on with the value as `numbers` has it
 so_far_digit : (w k : ℕ) (at : Progress) (b : ℕ) (s : List ℕ) → is_digit b ≡ true → scan w k at (b ∷ s) ≡ true
     → value_so_far (next_byte at b (separator_after w k)) ≡ value_so_far at * 10 + (b - 48)
-unfolding scan next_byte first_byte later_byte add_digit value_so_far
+unfolding scan
 so_far_digit w k Start b s e h = rw e (omega arith)
 so_far_digit w k Malformed b s e h = never (sym (scan_malformed w (k + values_ended b) s) ∙ h)
 so_far_digit w k (Digits n) b s e h = rw e (go (eqb n 0) (leb (n * 10 + (b - 48)) largest) (rw e at h))
@@ -94,7 +72,6 @@ so_far_digit w k (Digits n) b s e h = rw e (go (eqb n 0) (leb (n * 10 + (b - 48)
     go false false h = never (sym (scan_malformed w (k + values_ended b) s) ∙ h)
 
 so_far_end : (at : Progress) (b sep : ℕ) → is_digit b ≡ false → value_so_far (next_byte at b sep) ≡ 0
-unfolding next_byte first_byte later_byte value_so_far
 so_far_end Start b sep e = rw e
 so_far_end Malformed b sep e = refl
 so_far_end (Digits n) b sep e = rw e (go (eqb b sep))
@@ -124,7 +101,6 @@ pub record Writing (w : ℕ) (s first out : List ℕ) (at : Progress) (k i : ℕ
   pub is : out ≡ take k (numbers 0 s) ++ drop k first
 
 pub writing_start : {w : ℕ} {s first : List ℕ} → well_formed w s ≡ true → length (numbers 0 s) ≤ length first → Writing w s first first Start 0 0
-unfolding value_so_far
 writing_start {w} {s} {first} h r =
     record { within = omega arith; few = omega arith; scans = formed_scans w s h; upto = omega arith; rest = refl; room = r; is = refl }
 
@@ -192,34 +168,3 @@ pub writing_room : {w : ℕ} {s first out : List ℕ} {at : Progress} {k i : ℕ
 writing_room {w} {s} {first} {out} {at} {k} {i} h l d =
     let q = put_next (numbers 0 s) first k (value_so_far at) (numbers 0 (drop (i + 1) s)) (writing_here h l d) h.room in
     omega (arith, q.0, h.room, writing_length h)
-
--- ---- starts_with: the bytes passed are the same in both
-
-pub record Matching (text line : List ℕ) (i : ℕ) : Type 0 where
-  pub within : i ≤ length line
-  pub enough : length line ≤ length text
-  pub is : take i line ≡ take i text
-
-pub match_start : {text line : List ℕ} → length line ≤ length text → Matching text line 0
-match_start {text} {line} h = record { within = omega arith; enough = h; is = refl }
-
-pub match_step : {text line : List ℕ} {i : ℕ} → Matching text line i → i < length line → get_or text i 0 ≡ get_or line i 0 → Matching text line (i + 1)
-match_step {text} {line} {i} h l e =
-    record {
-      within = omega arith;
-      enough = h.enough;
-      is = rw (add-one, take-suc line i 0 l, take-suc text i 0 (omega (arith, h.enough)), h.is, e) refl;
-    }
-
-pub match_done : {text line : List ℕ} {i : ℕ} → Matching text line i → length line ≤ i → true ≡ same line (take (length line) text)
-match_done {text} {line} {i} h l =
-    let p : i ≡ length line = omega (arith, h.within) in
-    sym (same_is line (take (length line) text) (sym (take-length line) ∙ ap (λ (x : ℕ). take x line) (sym p) ∙ h.is ∙ ap (λ (x : ℕ). take x text) p))
-
-pub match_short : (text line : List ℕ) → length text < length line → false ≡ same line (take (length line) text)
-match_short text line h =
-    sym (same_false line (take (length line) text) (λ e. omega (arith, ap length e, length-take (length line) text)))
-
-pub match_differs : (text line : List ℕ) (i : ℕ) → i < length line → (get_or text i 0 ≡ get_or line i 0 → ⊥) → false ≡ same line (take (length line) text)
-match_differs text line i l f =
-    sym (same_false line (take (length line) text) (λ e. f (sym (ap (λ (x : List ℕ). get_or x i 0) e ∙ get_or-take (length line) text i 0 l))))

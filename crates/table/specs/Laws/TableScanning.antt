@@ -1,11 +1,12 @@
 -- The scan accepts a text exactly when the text is the printed form of its numbers, these fit, and they make whole lines. Assumes nothing.
-use Rattle.std.specs.Prelude.{ℕ, zero, suc, ◌+◌, ◌-◌, ◌*◌, ◌/◌, ◌%◌, ◌^◌, ◌≤◌, ◌<◌, ◌≡◌, refl, Bool, true, false, List, [], ◌∷◌, ◌++◌, leb, eqb, length, if◌then◌else◌}
+use Rattle.std.specs.Prelude.{ℕ, zero, suc, ◌+◌, ◌-◌, ◌*◌, ◌/◌, ◌%◌, ◌^◌, ◌≤◌, ◌<◌, ◌≡◌, refl, Bool, true, false, not, List, [], ◌∷◌, ◌++◌, leb, eqb, length, count_by, if◌then◌else◌}
 use Rattle.std.proofs.Common.{sym, ap, ◌∙◌, ⊎_elim, append_assoc, eq-zero-or-pos, arith, le-leb, eq-eqb, ne_eqb, leb-true, eqb-true}
+use Rattle.std.proofs.lemmas.List.Sums.{sum_by-cons}
 use Rattle.lists.specs.Laws.TestsLaws.{and_left, and_right, and_both}
 use Rattle.table_text.specs.TableText.{digits, decimal, separator_after, printed}
 use Rattle.table_text.specs.Laws.TableTextLaws.{digits_one, digits_step, decimal_one, decimal_more}
 use Rattle.table_scan.specs.Values.{is_digit, largest}
-use Rattle.table_scan.specs.Laws.Scan.{add_digit, first_byte, later_byte, next_byte, values_ended, whole_lines, scan, values_in, value_so_far}
+use Rattle.table_scan.specs.Laws.Scan.{add_digit, values_ended, scan, value_so_far}
 use Rattle.table_scan.specs.Laws.ScanLaws.{digit_low, digit_high, is_digit_lem}
 use Rattle.table_scan.specs.declared.Progress.{Progress}
 use Rattle.table_scan.specs.declared.Progress.TheVariants.{Start, Digits, Malformed}
@@ -16,24 +17,23 @@ use Rattle.table.specs.Laws.TableLaws.{never, separator_no_digit, numbers_digit,
 
 -- nothing mends a malformed text
 pub scan_malformed : (w k : ℕ) (s : List ℕ) → scan w k Malformed s ≡ false
-unfolding scan next_byte whole_lines
+unfolding scan
 scan_malformed w k [] = refl
 scan_malformed w k (b ∷ s) = scan_malformed w (k + values_ended b) s
 
 scan_first : (w k b : ℕ) (s : List ℕ) → is_digit b ≡ true → scan w k Start (b ∷ s) ≡ scan w k (Digits (b - 48)) s
-unfolding scan next_byte first_byte later_byte values_ended
+unfolding scan values_ended
 scan_first w k b s h = let e : k + 0 ≡ k = omega arith in rw (h, e)
 
 scan_more : (w k n b : ℕ) (s : List ℕ) → is_digit b ≡ true → scan w k (Digits n) (b ∷ s) ≡ scan w k (add_digit n (b - 48)) s
-unfolding scan next_byte first_byte later_byte values_ended
+unfolding scan values_ended
 scan_more w k n b s h = let e : k + 0 ≡ k = omega arith in rw (h, e)
 
 scan_end : (w k n b : ℕ) (s : List ℕ) → is_digit b ≡ false → b ≡ separator_after w k → scan w k (Digits n) (b ∷ s) ≡ scan w (k + 1) Start s
-unfolding scan next_byte first_byte later_byte values_ended
+unfolding scan values_ended
 scan_end w k n b s h e = rw (h, eq-eqb b (separator_after w k) e)
 
 add_digit_fits : (n d : ℕ) → 0 < n → n * 10 + d ≤ largest → add_digit n d ≡ Digits (n * 10 + d)
-unfolding add_digit
 add_digit_fits n d p h = rw (ne_eqb n 0 (λ e. omega arith), le-leb (n * 10 + d) largest h)
 
 -- ---- what is printed is accepted
@@ -67,7 +67,7 @@ unfolding decimal
 scan_decimal w k v s m = scan_digits 19 w k v s (omega arith) m
 
 scan_printed : (w k : ℕ) (vs : List ℕ) → all_fit vs ≡ true → (k + length vs) % w ≡ 0 → scan w k Start (printed w k vs) ≡ true
-unfolding printed all_fit scan whole_lines
+unfolding printed all_fit scan
 scan_printed w k [] h e = let i : k + 0 ≡ k = omega arith in eq-eqb (k % w) 0 (ap (λ (x : ℕ). x % w) (sym i) ∙ e)
 scan_printed w k (v ∷ vs) h e =
     let m : v ≤ largest = leb-true v largest (and_left (leb v largest) (all_fit vs) h) in
@@ -101,19 +101,17 @@ abbrev Sound : ℕ → List ℕ → Type 0
 Sound w s = (k : ℕ) (at : Progress) → Fine at → scan w k at s ≡ true → IsPrinted w k at s
 
 start_no_digit : (w k b : ℕ) (s : List ℕ) → is_digit b ≡ false → scan w k Start (b ∷ s) ≡ false
-unfolding scan next_byte first_byte later_byte
+unfolding scan
 start_no_digit w k b s e = rw e (scan_malformed w (k + values_ended b) s)
 
 digits_no_separator : (w k n b : ℕ) (s : List ℕ) → is_digit b ≡ false → eqb b (separator_after w k) ≡ false → scan w k (Digits n) (b ∷ s) ≡ false
-unfolding scan next_byte first_byte later_byte
+unfolding scan
 digits_no_separator w k n b s e f = rw (e, f) (scan_malformed w (k + values_ended b) s)
 
 leading_zero : (w k d : ℕ) (s : List ℕ) → scan w k (add_digit 0 d) s ≡ false
-unfolding add_digit
 leading_zero w k d s = scan_malformed w k s
 
 too_large : (w k n d : ℕ) (s : List ℕ) → leb (n * 10 + d) largest ≡ false → scan w k (add_digit n d) s ≡ false
-unfolding add_digit
 too_large w k n d s e = go (eqb n 0)
   where
     go : (t : Bool) → scan w k (if t then Malformed else if leb (n * 10 + d) largest then Digits (n * 10 + d) else Malformed) s ≡ false
@@ -121,7 +119,6 @@ too_large w k n d s e = go (eqb n 0)
     go false = rw e (scan_malformed w k s)
 
 start_step : (w k b : ℕ) (s : List ℕ) → Sound w s → (t : Bool) → is_digit b ≡ t → scan w k Start (b ∷ s) ≡ true → IsPrinted w k Start (b ∷ s)
-unfolding value_so_far
 start_step w k b s ih false e h = never (sym (start_no_digit w k b s e) ∙ h)
 start_step w k b s ih true e h =
     let l = digit_low b e in
@@ -135,7 +132,7 @@ start_step w k b s ih true e h =
 
 end_step : (w k n b : ℕ) (s : List ℕ) → n ≤ largest → Sound w s → is_digit b ≡ false
     → (t : Bool) → eqb b (separator_after w k) ≡ t → scan w k (Digits n) (b ∷ s) ≡ true → IsPrinted w k (Digits n) (b ∷ s)
-unfolding value_so_far printed all_fit
+unfolding printed all_fit
 end_step w k n b s f ih e false q h = never (sym (digits_no_separator w k n b s e q) ∙ h)
 end_step w k n b s f ih e true q h =
     let p : b ≡ separator_after w k = eqb-true b (separator_after w k) q in
@@ -150,7 +147,6 @@ end_step w k n b s f ih e true q h =
 
 more_step : (w k n b : ℕ) (s : List ℕ) → Sound w s → is_digit b ≡ true → 0 < n
     → (t : Bool) → leb (n * 10 + (b - 48)) largest ≡ t → scan w k (Digits n) (b ∷ s) ≡ true → IsPrinted w k (Digits n) (b ∷ s)
-unfolding value_so_far
 more_step w k n b s ih e p false q h = never (sym (scan_more w k n b s e ∙ too_large w k n (b - 48) s q) ∙ h)
 more_step w k n b s ih e p true q h =
     let l = digit_low b e in
@@ -172,7 +168,7 @@ later_step w k n b s f ih true e h =
     (eq-zero-or-pos n)
 
 sound_nil : (w : ℕ) → Sound w []
-unfolding scan whole_lines printed numbers all_fit value_so_far
+unfolding scan printed numbers all_fit
 sound_nil w k Start f h = let i : k + 0 ≡ k = omega arith in record { text = refl; fits = refl; whole = ap (λ (x : ℕ). x % w) i ∙ eqb-true (k % w) 0 h }
 sound_nil w k (Digits n) f h = never h
 sound_nil w k Malformed f h = never h
@@ -190,7 +186,7 @@ sound w (b ∷ s) = sound_cons w b s (sound w s)
 -- ---- the two are one test
 
 scans_formed : (w : ℕ) (s : List ℕ) → scan w 0 Start s ≡ true → well_formed w s ≡ true
-unfolding well_formed value_so_far
+unfolding well_formed
 scans_formed w s h =
     let g = sound w s 0 Start tt h in
     let i : 0 + length (numbers 0 s) ≡ length (numbers 0 s) = omega arith in
@@ -210,14 +206,14 @@ scan_is w s = go (scan w 0 Start s) refl (well_formed w s) refl
     go false p true q = never (sym p ∙ formed_scans w s q)
     go false p false q = p ∙ sym q
 
--- ---- how many numbers there are
+-- ---- how many numbers there are: one for each byte that is no digit
 
-pub length_numbers : (n : ℕ) (s : List ℕ) → length (numbers n s) ≡ values_in s
-unfolding numbers values_in values_ended
+pub length_numbers : (n : ℕ) (s : List ℕ) → length (numbers n s) ≡ count_by (λ b. not (is_digit b)) s
+unfolding numbers
 length_numbers n [] = refl
-length_numbers n (b ∷ s) = go (is_digit b) (λ m. length_numbers m s)
+length_numbers n (b ∷ s) = rw sum_by-cons (go (is_digit b) (λ m. length_numbers m s))
   where
-    go : (t : Bool) → ((m : ℕ) → length (numbers m s) ≡ values_in s)
-        → length ((if t then [] else n ∷ []) ++ numbers (if t then n * 10 + (b - 48) else 0) s) ≡ (if t then 0 else 1) + values_in s
+    go : (t : Bool) → ((m : ℕ) → length (numbers m s) ≡ count_by (λ b. not (is_digit b)) s)
+        → length ((if t then [] else n ∷ []) ++ numbers (if t then n * 10 + (b - 48) else 0) s) ≡ (if not t then 1 else 0) + count_by (λ b. not (is_digit b)) s
     go true ih = omega (arith, ih (n * 10 + (b - 48)))
     go false ih = omega (arith, ih 0)

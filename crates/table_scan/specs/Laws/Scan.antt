@@ -6,18 +6,18 @@ use Rattle.table_scan.specs.declared.Progress.{Progress}
 use Rattle.table_scan.specs.declared.Progress.TheVariants.{Start, Digits, Malformed}
 
 -- the digit d after digits that make n: none after a leading zero, and none that makes the value too large
-unfoldable pub add_digit : ℕ → ℕ → Progress
+abbrev pub add_digit : ℕ → ℕ → Progress
 add_digit n d = if eqb n 0 then Malformed else if leb (n * 10 + d) largest then Digits (n * 10 + d) else Malformed
 
 -- a value begins with the byte b
-unfoldable pub first_byte : ℕ → Progress
+abbrev pub first_byte : ℕ → Progress
 first_byte b = if is_digit b then Digits (b - 48) else Malformed
 
 -- the byte b after digits that make n, where the separator due is sep
-unfoldable pub later_byte : ℕ → ℕ → ℕ → Progress
+abbrev pub later_byte : ℕ → ℕ → ℕ → Progress
 later_byte n b sep = if is_digit b then add_digit n (b - 48) else if eqb b sep then Start else Malformed
 
-unfoldable pub next_byte : Progress → ℕ → ℕ → Progress
+abbrev pub next_byte : Progress → ℕ → ℕ → Progress
 next_byte Start b sep = first_byte b
 next_byte (Digits n) b sep = later_byte n b sep
 next_byte Malformed b sep = Malformed
@@ -27,7 +27,7 @@ unfoldable pub values_ended : ℕ → ℕ
 values_ended b = if is_digit b then 0 else 1
 
 -- the text may end after k values
-unfoldable pub whole_lines : ℕ → ℕ → Progress → Bool
+abbrev pub whole_lines : ℕ → ℕ → Progress → Bool
 whole_lines w k Start = eqb (k % w) 0
 whole_lines w k (Digits n) = false
 whole_lines w k Malformed = false
@@ -37,12 +37,7 @@ unfoldable pub scan : ℕ → ℕ → Progress → List ℕ → Bool
 scan w k at [] = whole_lines w k at
 scan w k at (b ∷ s) = scan w (k + values_ended b) (next_byte at b (separator_after w k)) s
 
--- how many values end in s
-unfoldable pub values_in : List ℕ → ℕ
-values_in [] = 0
-values_in (b ∷ s) = values_ended b + values_in s
-
-unfoldable pub value_so_far : Progress → ℕ
+abbrev pub value_so_far : Progress → ℕ
 value_so_far Start = 0
 value_so_far (Digits n) = n
 value_so_far Malformed = 0

@@ -1,9 +1,9 @@
--- `wheel::account` meets its contract, by the number of the month's calls. Assumes nothing.
+-- `wheel::account` meets its contract, by what the month's calls gave. Assumes nothing.
 use Rattle.wheel.specs.Laws.AccountLaws.{shows_refusal, shows_equation}
 use Rattle.wheel.proofs.account.Goals as goal
 
-pub returns-then-number-ne0 : goal.returns-then-number-ne0
-returns-then-number-ne0 c = shows_refusal c.args.values.now c.month-a.ensures c.if-number-ne0.true c.refused.ensures
+pub returns-in-Ok : goal.returns-in-Ok
+returns-in-Ok c = shows_equation c.args.values.now c.in-Ok.ensures.number c.in-Ok.ensures.holds c.equation.ensures
 
-pub returns : goal.returns
-returns c = shows_equation c.args.values.now c.month-a.ensures c.if-number-ne0.false c.equation.ensures
+pub returns-in-Err : goal.returns-in-Err
+returns-in-Err c = shows_refusal c.args.values.now _ c.in-Err.ensures.number c.refused.ensures

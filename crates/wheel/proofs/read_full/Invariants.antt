@@ -2,8 +2,8 @@
 use Rattle.std.proofs.Common.{length, ◌-◌, ◌≤◌}
 use Rattle.wheel.proofs.read_full.Given as goal
 
-abbrev pub invariant-loop-filled : goal.invariant-loop-filled
-invariant-loop-filled g l = l.filled ≤ length l.text
+abbrev pub invariant-loop-count : goal.invariant-loop-count
+invariant-loop-count g l = l.filled ≤ length l.text
 
-abbrev pub decreases-loop-filled : goal.decreases-loop-filled
-decreases-loop-filled g l = length l.text - l.filled
+abbrev pub decreases-loop-count : goal.decreases-loop-count
+decreases-loop-count g l = length l.text - l.filled

@@ -1,34 +1,19 @@
 -- `wheel_input::read` meets its contract, by the text's length and the reader's answer. Assumes nothing.
-use Rattle.std.proofs.Common.{sym, ◌∙◌, arith}
-use Rattle.wheel_input.specs.Laws.InputLaws.{shown_lines, shown_refused, input_short, input_long, input_names}
+use Rattle.std.proofs.Common.{◌≡◌, Err, rules}
+use Rattle.std.proofs.lemmas.Bool.{false≢true}
+use Rattle.refusal.specs.declared.Refusal.TheVariants.{WrongNames}
+use Rattle.wheel_input.specs.Laws.InputLaws.{input_short, input_long, input_names}
 use Rattle.wheel_input.proofs.read.Goals as goal
+use Rattle.wheel_input.proofs.read.Goals.{then-text-le65536-via-then-text-le65536, then-text-le65536-via-else-text-le65536+then-eq}
 
 pub returns-then-text-le65536 : goal.returns-then-text-le65536
 returns-then-text-le65536 c =
-    input_short c.requires c.read_table-read.result c.read_table-read.ensures c.if-text-le65536.true
-
-pub returns-in_default : goal.returns-in_default
-returns-in_default c =
-    input_long
-    c.requires
-    c.read_table-read.result
-    c.read_table-read.ensures
-    (λ z. omega (arith, shown_lines c.in_default.is))
-    c.if-text-le65536.false
-
-pub returns-then-number-eq14 : goal.returns-then-number-eq14
-returns-then-number-eq14 c =
-    input_names
-    c.requires
-    c.read_table-read.result
-    c.read_table-read.ensures
-    (shown_refused c.in-Refused.is ∙ c.if-number-eq14.true)
+    elim c.then-text-le65536.branch [
+      | then-text-le65536-via-then-text-le65536 w ↦ input_short c.requires _ c.read_table-read.ensures w.if-text-le65536.true
+      | then-text-le65536-via-else-text-le65536+then-eq w ↦
+          let e : c.read_table-read.result ≡ Err WrongNames = search rules in
+          rw e (input_names c.requires (rw e at c.read_table-read.ensures))
+    ]
 
 pub returns : goal.returns
-returns c =
-    input_long
-    c.requires
-    c.read_table-read.result
-    c.read_table-read.ensures
-    (λ z. c.if-number-eq14.false (sym (shown_refused c.in-Refused.is) ∙ z))
-    c.if-text-le65536.false
+returns c = input_long c.requires _ c.read_table-read.ensures (λ e. false≢true (rw e at c.if-eq.ensures)) c.if-text-le65536.false

@@ -1,14 +1,16 @@
 -- Laws of reading the text. Assumes nothing.
-use Rattle.std.specs.Prelude.{ℕ, ◌*◌, ◌≤◌, ◌<◌, ◌≡◌, Bool, not, ◌&&◌, List, ltb, length, if◌then◌else◌}
+use Rattle.std.specs.Prelude.{ℕ, ◌*◌, ◌≤◌, ◌<◌, ◌≡◌, Bool, not, ◌&&◌, List, ltb, length, if◌then◌else◌, Result, Ok, Err}
 use Rattle.std.proofs.Math.Path.{refl, sym}
-use Rattle.std.proofs.Common.{ap, ◌∙◌, subst, arith, lt-ltb, le-ltb}
+use Rattle.std.proofs.Common.{ap, ◌∙◌, arith, lt-ltb, le-ltb}
 use Rattle.std.proofs.Math.Bool.{true, false}
 use Rattle.lists.specs.Tests.{within}
 use Rattle.lists.specs.Refusals.{first_of}
-use Rattle.table.specs.Table.{in_range, starts_with_names, later_lines, well_formed, values, read_number, ReadMeets, displayed}
-use Rattle.table.specs.Laws.ReadMeetsLaws.{lines_read, refusal}
-use Rattle.table.specs.declared.Read.{Read}
-use Rattle.table.specs.declared.Read.TheVariants.{Lines, Refused}
+use Rattle.refusal.specs.declared.Refusal.{Refusal}
+use Rattle.refusal.specs.declared.Refusal.TheVariants.{WrongNames, WrongLine}
+use Rattle.refusal.specs.Numbers.{shown}
+use Rattle.refusal.specs.Laws.NumbersLaws.{one_refusal}
+use Rattle.table.specs.Table.{in_range, starts_with_names, later_lines, well_formed, values, read_number, ReadMeets}
+use Rattle.table.specs.Laws.ReadMeetsLaws.{lines_read}
 use Rattle.wheel_rules.specs.Display.{most_input, space, table_number}
 use Rattle.wheel_input.specs.Laws.Input.{InputRead}
 
@@ -27,15 +29,11 @@ names_right text room e h = go (not (well_formed 3 (later_lines 1 2 text))) (ltb
     go false true h = omega arith
     go false false h = omega arith
 
--- ---- the number that an answer shows
+-- ---- the answer that shows 14
 
-pub shown_lines : {r : Read} {k : ℕ} → r ≡ Lines k → displayed r ≡ 0
-unfolding displayed
-shown_lines e = ap displayed e
-
-pub shown_refused : {r : Read} {n : ℕ} → r ≡ Refused n → displayed r ≡ n
-unfolding displayed
-shown_refused e = ap displayed e
+shown_14 : (r : Result ℕ Refusal) → shown r ≡ 14 → r ≡ Err WrongNames
+shown_14 (Ok k) e = absurd (omega arith)
+shown_14 (Err q) e = ap Err (one_refusal q WrongNames e)
 
 -- ---- the table's number
 
@@ -56,34 +54,34 @@ unfolding table_number
 number_long text e h = rw (e, lt-ltb most_input (length text) h)
 
 module _ {text out last : List ℕ} (size : length out ≡ space) where
-  number_read : {r : Read} → ReadMeets 1 2 text out r last → displayed r ≡ read_number 1 2 text space
-  number_read m = m.number ∙ ap (read_number 1 2 text) size
+  number_read : {r : Result ℕ Refusal} → ReadMeets 1 2 text out r last → read_number 1 2 text space ≡ shown r
+  number_read m = sym (m.number ∙ ap (read_number 1 2 text) size)
 
-  pub input_short : (r : Read) → ReadMeets 1 2 text out r last → length text ≤ most_input → InputRead text r last
-  unfolding InputRead displayed
-  input_short (Lines k) m h =
+  pub input_short : (r : Result ℕ Refusal) → ReadMeets 1 2 text out r last → length text ≤ most_input → InputRead text r last
+  unfolding InputRead
+  input_short (Ok k) m h =
       let l = lines_read m in
-      (number_short text h ∙ sym (number_read m), (omega (arith, l.room), l.start))
-  input_short (Refused n) m h = (number_short text h ∙ sym (number_read m), (refusal m).0)
+      (number_short text h ∙ number_read m, (omega (arith, l.room), l.start))
+  input_short (Err e) m h = number_short text h ∙ number_read m
 
   -- past 64 KiB, an answer other than 14
-  pub input_long : (r : Read) → ReadMeets 1 2 text out r last → (displayed r ≡ 14 → ⊥) → most_input < length text → InputRead text (Refused 15) last
+  pub input_long : (r : Result ℕ Refusal) → ReadMeets 1 2 text out r last → (r ≡ Err WrongNames → ⊥) → most_input < length text → InputRead text (Err WrongLine) last
   unfolding InputRead
-  input_long r m n h = (go (starts_with_names 1 2 text) refl, λ z. omega arith)
+  input_long r m n h = go (starts_with_names 1 2 text) refl
     where
       go : (t : Bool) → starts_with_names 1 2 text ≡ t → table_number text ≡ 15
       go true e = number_long text e h
-      go false e = absurd (n (number_read m ∙ names_differ text space e))
+      go false e = absurd (n (shown_14 r (sym (number_read m) ∙ names_differ text space e)))
 
   -- past 64 KiB, with names that differ
-  pub input_names : (r : Read) → ReadMeets 1 2 text out r last → displayed r ≡ 14 → InputRead text (Refused 14) last
+  pub input_names : ReadMeets 1 2 text out (Err WrongNames) last → InputRead text (Err WrongNames) last
   unfolding InputRead
-  input_names r m n = (go (starts_with_names 1 2 text) refl, λ z. omega arith)
+  input_names m = go (starts_with_names 1 2 text) refl
     where
       go : (t : Bool) → starts_with_names 1 2 text ≡ t → table_number text ≡ 14
-      go true e = absurd (names_right text space e (sym (number_read m) ∙ n))
+      go true e = absurd (names_right text space e (number_read m))
       go false e = number_differ text e
 
-pub input_room : (text last : List ℕ) (r : Read) (k : ℕ) → r ≡ Lines k → InputRead text r last → k * 3 ≤ space
+pub input_room : (text last : List ℕ) (k : ℕ) → InputRead text (Ok k) last → k * 3 ≤ space
 unfolding InputRead
-input_room text last r k e h = let q : InputRead text (Lines k) last = subst (λ (x : Read). InputRead text x last) e h in q.1.0
+input_room text last k h = h.1.0

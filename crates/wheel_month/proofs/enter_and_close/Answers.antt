@@ -1,17 +1,20 @@
 -- `wheel_month::enter_and_close` meets its contract: the lines, and the closing after them. Assumes nothing.
 use mathlib.Core.List.{[], ◌∷◌}
+use mathlib.Core.Path.{refl}
 use native.Mathlib.Omega.{arith}
+use Rattle.std.proofs.lemmas.Result.{err_from_is_err_and}
+use Rattle.refusal.specs.Laws.NumbersLaws.{number_not_0}
 use Rattle.book.specs.BookCalls.{closing}
 use Rattle.wheel_month.specs.Laws.CarriedLaws.{carried_then, carried_stop, carried_ready}
 use Rattle.wheel_month.proofs.enter_and_close.Goals as goal
 
-pub returns-then-number-ne0 : goal.returns-then-number-ne0
-returns-then-number-ne0 c = carried_stop c.enter_lines-number.ensures (closing 9 ∷ []) c.if-number-ne0.true
+pub returns-in_err-enter_lines : goal.returns-in_err-enter_lines
+returns-in_err-enter_lines c =
+    let p = err_from_is_err_and c.from_residual.result c.from_residual.ensures.1 in
+    rw (p.1, p.2) (carried_stop c.in_err-enter_lines.ensures (closing 9 ∷ []) (number_not_0 _))
 
 pub close_month-requires : goal.close_month-requires
-close_month-requires c =
-    carried_ready c.enter_lines-number.ensures c.if-number-ne0.false (omega (arith, c.enter_lines-number.auto.s, c.requires.whole))
+close_month-requires c = carried_ready c.in_ok-enter_lines.ensures refl (omega (arith, c.enter_lines.auto.s, c.requires.whole))
 
 pub returns : goal.returns
-returns c =
-    carried_then c.enter_lines-number.ensures c.if-number-ne0.false c.close_month.ensures
+returns c = carried_then c.in_ok-enter_lines.ensures refl c.close_month.ensures

@@ -16,7 +16,7 @@ use Rattle.agreement_rules.specs.Schedule.{schedule_rule}
 use Rattle.book.specs.BookCalls.{block, closing, rule_of, book_after, BookAnswer, book_answers}
 use Rattle.book.specs.AgreementA.{agreement_a, schedule_a}
 use Rattle.book.proofs.BenchCases.{bench_cases}
-use Rattle.wheel_rules.specs.Display.{blocks, calls, first_refused}
+use Rattle.wheel_rules.specs.Display.{blocks, calls, call_number, last_book, first_refused}
 use Rattle.agreement_rules.specs.OpenedOn.{OpenedOn}
 use Rattle.opening.specs.Laws.OpenedOnLaws.{opened_back}
 use Rattle.wheel_month.specs.Laws.Carried.{Holds, Carried, Ready, answered}
@@ -110,7 +110,15 @@ module _ (s : List ℕ) (q : Holds (record_in s) (book_after (opened agreement_a
   pub month_ready : length s ≡ record_bytes → Ready s
   month_ready whole = record { whole = whole; sound_is = ap sound q.is ∙ q.sound_is }
 
-  pub month_carried : (vs s' : List ℕ) {n : ℕ} {after : Record} → Carried (book_in s) (blocks vs ++ (closing 9 ∷ [])) (answered n s') → after ≡ record_in s'
-      → Carried (opened agreement_a) (calls vs) (record { number = n; after = after })
-  unfolding calls
-  month_carried vs s' k loaded = rw loaded (carried_then (scheduled q) refl k)
+  module _ (vs s' : List ℕ) {n : ℕ} (k : Carried (book_in s) (blocks vs ++ (closing 9 ∷ [])) (answered n s')) where
+    month_carried : Carried (opened agreement_a) (calls vs) (answered n s')
+    unfolding calls
+    month_carried = carried_then (scheduled q) refl k
+
+    pub month_number : n ≡ call_number vs
+    unfolding call_number
+    month_number = month_carried.number_is
+
+    pub month_holds : {after : Record} → n ≡ 0 → after ≡ record_in s' → Holds after (last_book vs)
+    unfolding last_book
+    month_holds z loaded = rw loaded (month_carried.holds z)

@@ -1,4 +1,5 @@
 -- `wheel_print::equation` meets its contract: the line of names and that of generator 1. Assumes nothing.
+use Rattle.std.proofs.Common.{rules}
 use Rattle.lists.specs.Tables.{table}
 use Rattle.lists.specs.Pairs.{place}
 use Rattle.record.specs.Stored.{generator_at}
@@ -8,4 +9,4 @@ use Rattle.wheel_print.proofs.equation.Goals as goal
 
 pub returns : goal.returns
 unfolding equation_text bytes table generator_at place
-returns c = c.word_and_line.ensures
+returns c = search rules

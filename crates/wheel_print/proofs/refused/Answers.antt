@@ -1,4 +1,5 @@
 -- `wheel_print::refused` meets its contract: the word and the line of one number. Assumes nothing.
+use Rattle.std.proofs.Common.{rules}
 use Rattle.lists.specs.Tables.{table}
 use Rattle.wheel_rules.specs.PrintedWords.{bytes}
 use Rattle.wheel_rules.specs.Display.{refused_text}
@@ -6,4 +7,4 @@ use Rattle.wheel_print.proofs.refused.Goals as goal
 
 pub returns : goal.returns
 unfolding refused_text bytes table
-returns c = c.word_and_line.ensures
+returns c = search rules

@@ -12,13 +12,13 @@ slice_bounds-block_on-end c = simp length-take (omega (arith, c.room-n.ensures.w
 
 pub slice_bounds-give-end : goal.slice_bounds-give-end
 slice_bounds-give-end c =
-    sym (left_size _ c.room-n.ensures (search rules) c.block_on-number.new.out c.block_on-number.auto.out)
+    sym (left_size _ c.room-n.ensures (search rules) c.block_on-outcome.new.out c.block_on-outcome.auto.out)
 
 pub give-requires : goal.give-requires
 give-requires c =
     let h = c.room-n.ensures in
-    (left_room _ h (search rules) c.block_on-number.new.out c.block_on-number.auto.out, block_fits _ _ _ h (search rules) c.block_on-number.ensures)
+    (left_room _ h (search rules) c.block_on-outcome.new.out c.block_on-outcome.auto.out, block_fits _ _ _ h (search rules) c.block_on-outcome.ensures)
 
 pub returns : goal.returns
 returns c =
-    block_written _ _ _ c.room-n.ensures (search rules) c.block_on-number.ensures c.block_on-number.auto.out c.give.ensures
+    block_written _ _ _ c.room-n.ensures (search rules) c.block_on-outcome.ensures c.block_on-outcome.auto.out c.give.ensures

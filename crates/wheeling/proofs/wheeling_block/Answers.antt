@@ -1,5 +1,4 @@
 -- `wheeling::wheeling_block` meets its contract: block on the record and the numbers that the bytes hold.
-use borrow.Author.Rules.{rules}
 use native.Mathlib.Omega.{arith}
 use lib.ListN.{length-take}
 use Rattle.wheeling_rules.specs.Laws.WheelingLaws.{block_on_bytes, on_other}
@@ -17,4 +16,4 @@ returns-then-record-eq-RECORD_BYTES c =
     block_on_bytes _ _ c.if-record-eq-RECORD_BYTES.true c.read_input-n.ensures.alike c.read_input-m.ensures.alike c.block_on_inputs.ensures
 
 pub returns : goal.returns
-returns c = on_other c.if-record-eq-RECORD_BYTES.false
+returns c = rw c.number.ensures (on_other c.if-record-eq-RECORD_BYTES.false)

@@ -12,16 +12,16 @@ slice_bounds-close_on-end c = simp length-take (omega (arith, c.room-n.ensures.w
 
 pub slice_bounds-give-end : goal.slice_bounds-give-end
 slice_bounds-give-end c =
-    sym (left_size _ c.room-n.ensures (search rules) c.close_on-number.new.out c.close_on-number.auto.out)
+    sym (left_size _ c.room-n.ensures (search rules) c.close_on-outcome.new.out c.close_on-outcome.auto.out)
 
 pub give-requires : goal.give-requires
 give-requires c =
     let h = c.room-n.ensures in
-    (left_room _ h (search rules) c.close_on-number.new.out c.close_on-number.auto.out, closing_fits _ h (search rules) c.close_on-number.ensures)
+    (left_room _ h (search rules) c.close_on-outcome.new.out c.close_on-outcome.auto.out, closing_fits _ h (search rules) c.close_on-outcome.ensures)
 
 pub returns-then-record-eq-RECORD_BYTES : goal.returns-then-record-eq-RECORD_BYTES
 returns-then-record-eq-RECORD_BYTES c =
-    closing_on_bytes _ c.room-n.ensures (search rules) c.close_on-number.ensures c.if-record-eq-RECORD_BYTES.true c.close_on-number.auto.out c.give.ensures
+    closing_on_bytes _ c.room-n.ensures (search rules) c.close_on-outcome.ensures c.if-record-eq-RECORD_BYTES.true c.close_on-outcome.auto.out c.give.ensures
 
 pub returns : goal.returns
-returns c = on_other c.if-record-eq-RECORD_BYTES.false
+returns c = rw c.number.ensures (on_other c.if-record-eq-RECORD_BYTES.false)

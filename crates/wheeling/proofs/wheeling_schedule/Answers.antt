@@ -1,5 +1,4 @@
 -- `wheeling::wheeling_schedule` meets its contract: schedule on the record and the numbers that the bytes hold. Assumes nothing.
-use borrow.Author.Rules.{rules}
 use native.Mathlib.Omega.{arith}
 use lib.ListN.{length-take}
 use Rattle.wheeling_rules.specs.Laws.WheelingLaws.{schedule_on_bytes, on_other}
@@ -14,7 +13,7 @@ slice_bounds-schedule_on-end-then-record-eq-RECORD_BYTES c = simp length-take (o
 
 pub returns-then-record-eq-RECORD_BYTES : goal.returns-then-record-eq-RECORD_BYTES
 returns-then-record-eq-RECORD_BYTES c =
-    schedule_on_bytes _ _ c.if-record-eq-RECORD_BYTES.true c.read_input-n.ensures.alike c.read_input-m.ensures.alike c.schedule_on.ensures
+    rw c.shown.ensures (schedule_on_bytes _ _ c.if-record-eq-RECORD_BYTES.true c.read_input-n.ensures.alike c.read_input-m.ensures.alike c.schedule_on.ensures)
 
 pub returns : goal.returns
-returns c = on_other c.if-record-eq-RECORD_BYTES.false
+returns c = rw c.number.ensures (on_other c.if-record-eq-RECORD_BYTES.false)

@@ -1,10 +1,10 @@
 -- Bytes read as numbers: whole counts, too many, and no whole count. Assumes nothing.
-use Rattle.std.specs.Prelude.{ℕ, ◌*◌, ◌/◌, ◌%◌, ◌^◌, ◌≤◌, ◌<◌, ◌≡◌, refl, Bool, true, false, List, [], ◌++◌, eqb, length, take, drop, if◌then◌else◌}
+use Rattle.std.specs.Prelude.{ℕ, ◌*◌, ◌/◌, ◌%◌, ◌^◌, ◌≤◌, ◌<◌, ◌≡◌, refl, Bool, true, false, List, [], ◌++◌, ◌⊎◌, eqb, length, take, drop, if◌then◌else◌}
 use Rattle.std.proofs.Math.Path.{sym}
 use Rattle.std.proofs.Common.{ap, ◌∙◌, inl, inr, arith, eqb-true, eq-eqb, ne_eqb, length-take-le, take_at}
 use borrow.Table.Elements.{same_len}
 use Rattle.lists.specs.Laws.TablesLaws.{length_table}
-use Rattle.codec.specs.Bytes.{encode, decode}
+use Rattle.codec.specs.Bytes.{encode, decode_as, decode}
 use Rattle.codec.specs.Laws.BytesLaws.{Below, length_encode, length_decode, decode_encode}
 use Rattle.record_layout.specs.OnBytes.{bytes_after}
 use Rattle.wheeling_rules.specs.Wheeling.{numbers_in}
@@ -22,6 +22,11 @@ module _ (w : ℕ) (bytes : List ℕ) where
   unfolding numbers_in
   count_broken e = rw (ne_eqb (length bytes % w) 0 e) (length_table 1_000 (λ i. 0))
 
+  -- too many numbers, or no whole count of them
+  pub count_more : {k : ℕ} → k ≤ 1_000 → ((length bytes % w ≡ 0) × (k ≤ length bytes / w)) ⊎ (length bytes % w ≡ 0 → ⊥) → k ≤ length (numbers_in w bytes)
+  count_more l (inl h) = omega (arith, count_whole h.0)
+  count_more l (inr e) = omega (arith, count_broken e)
+
 module _ (bytes out : List ℕ) {k : ℕ} (size : length out ≡ k) where
   -- the codec is lent the first n places
   pub taken_read : {n : ℕ} {ys : List ℕ} → length bytes % 4 ≡ 0 → n ≡ length bytes / 4 → n < k → ys ≡ decode 4 (length (take n out)) bytes → Taken (numbers_in 4 bytes) k n (ys ++ drop n out)
@@ -34,27 +39,15 @@ module _ (bytes out : List ℕ) {k : ℕ} (size : length out ≡ k) where
         alike = inl (take_at ys (drop n out) n here ∙ d ∙ ap (λ (i : ℕ). decode 4 i bytes) (lent ∙ q) ∙ sym (numbers_whole 4 bytes e));
       }
 
-  taken_all : k ≤ length (numbers_in 4 bytes) → Taken (numbers_in 4 bytes) k k out
+  pub taken_all : k ≤ length (numbers_in 4 bytes) → Taken (numbers_in 4 bytes) k k out
   taken_all h = record { within = omega arith; size = size; alike = inr (omega (arith, length-take-le k out (omega arith)), h) }
-
-  pub taken_too_many : length bytes % 4 ≡ 0 → k ≤ length bytes / 4 → Taken (numbers_in 4 bytes) k k out
-  taken_too_many e h = taken_all (omega (arith, count_whole 4 bytes e))
-
-  pub taken_broken : k ≤ 1_000 → (length bytes % 4 ≡ 0 → ⊥) → Taken (numbers_in 4 bytes) k k out
-  taken_broken h e = taken_all (omega (arith, count_broken 4 bytes e))
 
 module _ (lent : List ℕ) {k : ℕ} where
   pub room_whole : {n : ℕ} → length lent % 8 ≡ 0 → n ≡ length lent / 8 → n < k → Room lent k n
   room_whole e q l = record { within = omega arith; fits = λ h. omega arith; alike = inl (q ∙ sym (count_whole 8 lent e)) }
 
-  room_none : k ≤ length (numbers_in 8 lent) → Room lent k k
-  room_none h = record { within = omega arith; fits = λ l. absurd (omega arith); alike = inr (omega arith, h) }
-
-  pub room_too_many : length lent % 8 ≡ 0 → k ≤ length lent / 8 → Room lent k k
-  room_too_many e h = room_none (omega (arith, count_whole 8 lent e))
-
-  pub room_broken : k ≤ 1_000 → (length lent % 8 ≡ 0 → ⊥) → Room lent k k
-  room_broken h e = room_none (omega (arith, count_broken 8 lent e))
+  pub room_all : k ≤ length (numbers_in 8 lent) → Room lent k k
+  room_all h = record { within = omega arith; fits = λ l. absurd (omega arith); alike = inr (omega arith, h) }
 
 -- a call is lent the first n of k numbers for its output
 module _ (out : List ℕ) {lent : List ℕ} {k n : ℕ} (h : Room lent k n) (size : length out ≡ k) where
@@ -93,7 +86,7 @@ numbers_encode ws h =
     numbers_whole 8 (encode 8 ws) (omega arith) ∙ ap (λ (i : ℕ). decode 8 i (encode 8 ws)) count ∙ decode_encode 8 ws h
 
 pub numbers_none : numbers_in 8 [] ≡ []
-unfolding numbers_in decode
+unfolding numbers_in decode_as
 numbers_none = refl
 
 -- what is given counts only where the call is accepted

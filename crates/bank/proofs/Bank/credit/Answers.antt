@@ -1,13 +1,25 @@
--- `bank::Bank::credit` is step 1 within the bank's limits, by the two cases of their test. Assumes nothing.
+-- `bank::Bank::credit` is step 1: within the limits s balances are charged and credited. Assumes nothing.
 use mathlib.Core.Path.{sym, ◌∙◌}
-use Rattle.bank.specs.Laws.BankLaws.{credit_within, credit_beyond}
+use native.Mathlib.Omega.{arith}
+use borrow.Author.Rules.{rules}
+use Rattle.bank.specs.Laws.CreditLaws.{credit_start, credit_step, credit_moderate, rate_high, credit_exact}
 use Rattle.bank.proofs.Bank.credit.Goals as goal
 
-pub credited-requires : goal.credited-requires
-credited-requires c = sym c.takes.ensures ∙ c.if-takes.true
+pub loop-s-init : goal.loop-s-init
+loop-s-init g c = credit_start (sym c.takes.ensures ∙ c.if-not-takes.false) (search rules)
 
-pub returns-then-takes : goal.returns-then-takes
-returns-then-takes c = c.credited.ensures ∙ sym (credit_within _ _ _ (sym c.takes.ensures ∙ c.if-takes.true))
+pub portion_up-due-requires : goal.portion_up-due-requires
+portion_up-due-requires g c =
+    let inv = c.loop-s.invariant in
+    let h = credit_moderate inv c.loop-s-test.true in
+    let r = rate_high inv in
+    search rules
 
-pub returns : goal.returns
-returns c = sym (credit_beyond _ _ _ (sym c.takes.ensures ∙ c.if-takes.false))
+pub overflow_sub-self : goal.overflow_sub-self
+overflow_sub-self g c = credit_exact c.loop-s.invariant c.portion_up-due.ensures
+
+pub overflow_add-self : goal.overflow_add-self
+overflow_add-self g c = omega (arith, credit_moderate c.loop-s.invariant c.loop-s-test.true)
+
+pub loop-s-preserved : goal.loop-s-preserved
+loop-s-preserved g c = credit_step c.loop-s.invariant c.loop-s-test.true c.portion_up-due.ensures

@@ -1,2 +1,0 @@
-pub mod Printing
-pub mod Laws
