@@ -149,17 +149,16 @@ FAULTS = {
         "open not reset": ("*::clear(s, *::OUTSTANDING, m);", ""),
         "pending not reset": ("*::clear(s, *::PENDING, n);", ""),
         "lapsed and bank swapped in the output":
-            ("out[n..bank_at].copy_from_slice(&lapsed[..n]);",
-             "out[n..bank_at].copy_from_slice(&balance[..n]);",
-             "out[bank_at..open_at].copy_from_slice(&balance[..n]);",
-             "out[bank_at..open_at].copy_from_slice(&lapsed[..n]);"),
+            ("put_list(out, n, lapsed, n);", "put_list(out, n, balance, n);",
+             "put_list(out, bank_at, balance, n);", "put_list(out, bank_at, lapsed, n);"),
         "open listed after the drawing":
-            ("copy_from_slice(&outstanding[..m]);", "copy_from_slice(&supplied[..m]);"),
+            ("put_list(out, open_at, outstanding, m);",
+             "put_list(out, open_at, supplied, m);"),
         "longer output allowed": ("size != n * m + 3 * n + 2 * m", "size < n * m + 3 * n + 2 * m"),
         "charge not taken from the bank":
             ("+= pending[s] - due.0;", "+= pending[s] - lists::only_if(N != 8, due.0);"),
         "all consumers draw what the first lacks":
-            ("&suppliers, outstanding[c])", "&suppliers, outstanding[0])"),
+            ("suppliers.keys(), outstanding[c])", "suppliers.keys(), outstanding[0])"),
         "months gone not reset":
             ("{ 0 } else { counts.gone + 1 }", "{ counts.gone } else { counts.gone + 1 }"),
     },
@@ -248,13 +247,13 @@ FAULTS = {
         "all open taken as peak":
             ("[offpeak, normal, peak]", "[0, 0, offpeak + normal + peak]"),
         "all consumers draw what the first lacks of a class":
-            ("&suppliers, wanted_at(s, c));", "&suppliers, wanted_at(s, 0));"),
+            ("suppliers.keys(), wanted_at(s, c));", "suppliers.keys(), wanted_at(s, 0));"),
         "peak given after all of the class":
-            ("left[k] = serve(turns, k, &mut bank.balance, left[k]);",
-             "let keys = turns.keys();\n        for i in (0..keys.len()).rev() {\n"
+            ("left[k] = serve(keys, k, &mut balance, left[k]);",
+             "for i in (0..keys.len()).rev() {\n"
              "            let s = keys[i] % 8 * 3 + k;\n"
-             "            left[k] = give(&mut bank.balance, s, left[k]);\n        }\n"
-             "        left[k] = serve(turns, k, &mut bank.balance, left[k]);"),
+             "            left[k] = give(&mut balance, s, left[k]);\n        }\n"
+             "        left[k] = serve(keys, k, &mut balance, left[k]);"),
         "off-peak given to normal":
             ("let left = give(has, g * 3 + k, want);",
              "let mut left = give(has, g * 3 + k, want);\n"
@@ -267,7 +266,7 @@ FAULTS = {
              "        let suppliers = *::suppliers_at(s, n, c);\n"
              "        let open = wanted_at(s, c);\n        let mut want = [0u64; 3];\n"
              "        want[k] = open[k];\n        let had = bank.balance;",
-             "&suppliers, wanted_at(s, c));", "&suppliers, want);",
+             "suppliers.keys(), wanted_at(s, c));", "suppliers.keys(), want);",
              "        let column = by_generator(&had, &bank.balance, n);",
              "        let mut column = by_generator(&had, &bank.balance, n);\n"
              "        let mut g: usize = 0;\n        while (k > 0) & (g < n) {\n"
@@ -275,8 +274,8 @@ FAULTS = {
              "supplied[c] = lacking[0] + lacking[1] + lacking[2];",
              "supplied[c] += lacking[k];"),
         "classes settled peak first":
-            ("left[k] = serve(turns, k, &mut bank.balance, left[k]);",
-             "left[2 - k] = serve(turns, 2 - k, &mut bank.balance, left[2 - k]);"),
+            ("left[k] = serve(keys, k, &mut balance, left[k]);",
+             "left[2 - k] = serve(keys, 2 - k, &mut balance, left[2 - k]);"),
         "no lapse before the switch": ("| *::before_switch(switch)", ""),
         "no lapse by hours":
             ("let lapses = by_generator(lapsed, &none, n);\n    let stays = [0u64; 8];",
@@ -300,7 +299,7 @@ FAULTS = {
              "        let mut out = [0u64; 185];\n"
              "        let n = wheeling_lists::room(output, 185);\n"
              "        let outcome = closing::close_on(&mut whole, &mut out[..n]);\n"
-             "        return wheeling_lists::give(outcome, &out, n, output);\n    }\n"
+             "        return wheeling_lists::give(refusal::shown(outcome), &out, n, output);\n    }\n"
              "    if record.len() == RECORD_BYTES {\n        let mut out"),
     },
     "hours: sound, record": {

@@ -5,12 +5,10 @@
 ghost use Rattle.std.specs.Prelude.{◌≡◌, ◌+◌, leb, replicate, if◌then◌else◌};
 ghost use Rattle.energy.specs.Limits.{most_figure};
 ghost use Rattle.closing_rules.specs.Closing.{cycle_ends, lapse_due};
-ghost use Rattle.order.specs.Laws.KeptOrder.{turns_in};
 ghost use Rattle.bank.specs.Laws.CreditLaws.{creditable};
-ghost use Rattle.bank.specs.Laws.BankSteps.{Credited, Drew};
+ghost use Rattle.bank.specs.Laws.BankSteps.{Credited, givers, Drew};
 
 use energy::Wh;
-use order::Turns;
 use record::{Counts, Switch, Terms};
 
 // The most that a balance, or a month's pending, comes to: what one place meters in the life of a unit.
@@ -24,15 +22,30 @@ pub struct Bank<const N: usize> {
     pub balance: [u64; N],
 }
 
-// what one consumer drew on each generator, and what it lacks
+// the bank after a credit, and the charge on it
+#[derive(Clone, Copy)]
+pub struct Credit<const N: usize> {
+    pub bank: Bank<N>,
+    pub charge: [u64; N],
+}
+
+// the bank after one consumer has drawn, what it drew on each generator, and what it lacks
 #[derive(Clone, Copy)]
 pub struct Draw {
+    pub bank: Bank<8>,
     pub drawn: [u64; 8],
     pub left: u64,
 }
 
+// the bank after the month's end, and what lapsed
+#[derive(Clone, Copy)]
+pub struct Lapse<const N: usize> {
+    pub bank: Bank<N>,
+    pub lapsed: [u64; N],
+}
+
 // Whether a balance and what is pending together are within the bank's limit, tested without adding: a sum could wrap.
-fn within(balance: u64, pending: u64) -> bool
+pub fn within(balance: u64, pending: u64) -> bool
     ensures { result ≡ leb (balance + pending) most_figure }
 {
     if pending <= MOST_ENERGY {
@@ -71,42 +84,69 @@ impl<const N: usize> Bank<N> {
         (rate <= record::MOST_RATE) & ok
     }
 
-    // Step 1 for the first `count` balances: what is pending is credited, and the result is the charge on it. What the bank held before is not
-    // charged again. Beyond the bank's limits it stays as it was, and nothing is charged.
-    pub fn credit(&mut self, count: usize, pending: &[u64; N], rate: u64) -> [u64; N]
-        ensures { Credited N self.old.balance count pending.now rate self.new.balance result }
+    // Step 1 for the first `count` balances: what is pending is credited, less the charge on it. What the bank held before is not charged again.
+    // Beyond the bank's limits it stays as it was, and nothing is charged.
+    pub fn credit(self, count: usize, pending: &[u64; N], rate: u64) -> Credit<N>
+        ensures { Credited N self.entry.balance count pending.now rate result.bank.balance result.charge }
     {
+        let mut balance = self.balance;
         let mut charge = [0; N];
-        if !self.takes(count, pending, rate) {
-            return charge;
+        if self.takes(count, pending, rate) {
+            for s in 0..count {
+                let due = energy::portion_up(Wh(pending[s]), rate);
+                balance[s] += pending[s] - due.0;
+                charge[s] = due.0;
+            }
         }
-        for s in 0..count {
-            let due = energy::portion_up(Wh(pending[s]), rate);
-            self.balance[s] += pending[s] - due.0;
-            charge[s] = due.0;
-        }
-        charge
+        let bank = Bank { balance };
+        Credit { bank, charge }
     }
 
-    // Step 4: where a lapse is due nothing stays. The result is what lapsed.
-    pub fn lapse(&mut self, due: bool) -> [u64; N]
-        ensures balance { self.new.balance ≡ (if due then replicate N 0 else self.old.balance) }
-        ensures lapsed { result ≡ (if due then self.old.balance else replicate N 0) }
+    // Step 4: where a lapse is due nothing stays.
+    pub fn lapse(self, due: bool) -> Lapse<N>
+        ensures balance { result.bank.balance ≡ (if due then replicate N 0 else self.entry.balance) }
+        ensures lapsed { result.lapsed ≡ (if due then self.entry.balance else replicate N 0) }
     {
+        let none = [0; N];
         if due {
-            return std::mem::replace(&mut self.balance, [0; N]);
+            let lapsed = self.balance;
+            let bank = Bank { balance: none };
+            return Lapse { bank, lapsed };
         }
-        [0; N]
+        Lapse {
+            bank: self,
+            lapsed: none,
+        }
     }
 }
 
 impl Bank<8> {
-    // Step 2 for one consumer: its suppliers give in the order of their turns.
-    pub fn draw(&mut self, turns: &Turns, want: u64) -> Draw
-        ensures { Drew (turns_in turns.now) want self.old.balance self.new.balance result.drawn result.left }
+    // The bank's limits: of a balance, of the charge rate in hundredths of a percent, and of suppliers.
+    pub const MOST_ENERGY: u64 = MOST_ENERGY;
+
+    pub const MOST_RATE: u64 = record::MOST_RATE;
+
+    pub const MOST_GENERATORS: usize = MOST_GENERATORS;
+
+    // Step 2 for one consumer, whose suppliers are known by their keys, the first to give in the last place: they give in their order. Of more
+    // than the bank has balances of nobody gives, and all that was wanted is lacking.
+    pub fn draw(self, keys: &[usize], want: u64) -> Draw
+        ensures { Drew (givers keys.now) want self.balance result.bank.balance result.drawn result.left }
     {
+        let mut balance = self.balance;
         let mut drawn = [0u64; 8];
-        let left = turns.settle(&mut self.balance, 1, 0, &mut drawn, want);
-        Draw { drawn, left }
+        let mut left = want;
+        if keys.len() <= MOST_GENERATORS {
+            left = order::settle(keys, &mut balance, 1, 0, &mut drawn, want);
+        }
+        let bank = Bank { balance };
+        Draw { bank, drawn, left }
     }
+}
+
+impl Bank<24> {
+    // The same of a bank by hours, and the most balances.
+    pub const MOST_GENERATORS: usize = MOST_GENERATORS;
+
+    pub const MOST_BALANCES: usize = 3 * MOST_GENERATORS;
 }

@@ -1,2 +1,4 @@
+pub mod CountingLaws
 pub mod Gap
+pub mod GapLaws
 pub mod Kinds

@@ -1,15 +1,19 @@
 -- What an estate may rely on: the day to use has every reading, and how high the count can be. Assumes nothing.
-use Rattle.std.specs.Prelude.{ℕ, ◌≤◌, ◌≡◌, refl, Bool, true, false, ◌&&◌, not, List, ltb, get_or, Ok}
-use Rattle.std.proofs.Common.{sym, ap, ◌∙◌, arith}
-use borrow.Author.Tests.{eqb-false, le-ltb}
+use Rattle.std.specs.Prelude.{ℕ, ◌≤◌, ◌≡◌, refl, Bool, true, false, ◌&&◌, not, List, [], eqb, ltb, get_or}
+use Rattle.std.proofs.Common.{sym, ◌∙◌, arith}
+use borrow.Author.Tests.{eqb-true, eqb-false, le-ltb}
 use Rattle.lists.specs.Laws.ChoiceLaws.{if_either}
+use Rattle.lists.specs.Tests.{some}
 use Rattle.lists.specs.Laws.SumsLaws.{sum_cap, sum_zero}
 use Rattle.lists.specs.Laws.RefusalsLaws.{first_head, first_tail}
 use Rattle.check_meter.specs.CheckMeter.{day_blocks, missing_mark, missing, incomplete, distance, further_apart, blocks_apart, day_number, Stretch, day_to_use, DayHandedBack}
-use Rattle.check_meter.specs.declared.DayToUse.{DayToUse}
 use Rattle.check_meter.specs.Laws.DaysScanned.{one_at_most}
 
 -- ---- the day to use
+
+none_in_nothing : incomplete [] ≡ false
+unfolding incomplete some
+none_in_nothing = refl
 
 -- where the check meter's day is to be used, no reading of it is missing
 pub check_complete : (main check : List ℕ) → day_number main check ≡ 0 → incomplete main ≡ true → incomplete check ≡ false
@@ -42,21 +46,26 @@ pub none_apart :
 unfolding blocks_apart
 none_apart tolerance main check t m c = sum_zero day_blocks _ (λ i l. rw (never_apart tolerance (get_or main i 0) (get_or check i 0) t (m i) (c i)))
 
--- ---- so of every call that is accepted
+-- ---- so of every call
 
-module _ {main check : Stretch} {tolerance : ℕ} {given : DayToUse} (h : DayHandedBack main check tolerance (Ok given)) where
+abbrev Complete : Stretch → Type 0
+Complete day = incomplete day.readings ≡ false
+
+module _ {main check : Stretch} {tolerance : ℕ} {day : Stretch} {number apart : ℕ} (h : DayHandedBack main check tolerance day number apart) where
   -- no reading of the day handed back is missing
-  pub handed_complete : incomplete given.readings.now ≡ false
+  pub handed_complete : incomplete day.readings ≡ false
   unfolding day_to_use
   handed_complete =
-      ap (λ (s : Stretch). incomplete s.readings) h.day_is ∙
-      if_either (λ (s : Stretch). incomplete s.readings ≡ false) (incomplete main.readings) (check_complete _ _ (sym h.number_is)) (λ m. m)
+      rw h.day_is
+      (if_either Complete (eqb number 0)
+      (λ z. if_either Complete (incomplete main.readings) (check_complete _ _ (sym h.number_is ∙ eqb-true number 0 z)) (λ m. m))
+      (λ z. none_in_nothing))
 
   -- the count is at most 96
-  pub count_most : given.apart ≤ day_blocks
-  count_most = rw h.apart_is (apart_most tolerance main.readings check.readings)
+  pub count_most : apart ≤ day_blocks
+  count_most = rw h.apart_is (if_either (λ (n : ℕ). n ≤ day_blocks) (eqb number 0) (λ z. apart_most tolerance main.readings check.readings) (λ z. omega arith))
 
   -- and 0 for a tolerance of 4,294,967,294 or more
   pub count_none :
-      highest_reading ≤ tolerance → ((i : ℕ) → get_or main.readings i 0 ≤ missing_mark) → ((i : ℕ) → get_or check.readings i 0 ≤ missing_mark) → given.apart ≡ 0
-  count_none t m c = h.apart_is ∙ none_apart tolerance main.readings check.readings t m c
+      highest_reading ≤ tolerance → ((i : ℕ) → get_or main.readings i 0 ≤ missing_mark) → ((i : ℕ) → get_or check.readings i 0 ≤ missing_mark) → apart ≡ 0
+  count_none t m c = rw h.apart_is (if_either (λ (n : ℕ). n ≡ 0) (eqb number 0) (λ z. none_apart tolerance main.readings check.readings t m c) (λ z. refl))

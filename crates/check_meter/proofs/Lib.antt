@@ -1,1 +1,2 @@
 pub mod CheckMeterLaws
+pub mod ComparedLaws

@@ -1,12 +1,9 @@
 -- Document 02, F-1: a day of readings from a main and a check meter on the same line. Assumes nothing.
-use Rattle.std.specs.Prelude.{ℕ, ◌+◌, ◌-◌, ◌≡◌, Bool, ◌&&◌, ◌||◌, not, List, [], ◌∷◌, eqb, ltb, length, get_or, if◌then◌else◌, Result, IfOk}
+use Rattle.std.specs.Prelude.{ℕ, ◌+◌, ◌-◌, ◌≡◌, Bool, ◌&&◌, ◌||◌, not, List, [], ◌∷◌, eqb, ltb, length, get_or, if◌then◌else◌}
 use Rattle.std.specs.Borrow.{Bor}
 use Rattle.lists.specs.Tests.{some}
 use Rattle.lists.specs.Sums.{sum}
 use Rattle.lists.specs.Refusals.{first_of}
-use Rattle.refusal.specs.Numbers.{shown}
-use Rattle.refusal.specs.declared.Refusal.{Refusal}
-use Rattle.check_meter.specs.declared.DayToUse.{DayToUse}
 
 -- the readings of a day, one for each block of 15 minutes
 abbrev pub day_blocks : ℕ
@@ -56,9 +53,12 @@ stretch_of slice = record { start = slice.ref_ptr; readings = slice.now }
 unfoldable pub day_to_use : (main check : Stretch) → Stretch
 day_to_use main check = if incomplete main.readings then check else main
 
--- What the call on the two days gave: the number; and of an accepted call the stretch, which is the caller's own and no copy, since it starts
--- where a lent one starts, and the count.
-pub record DayHandedBack (main check : Stretch) (tolerance : ℕ) (outcome : Result DayToUse Refusal) : Type 0 where
-  pub number_is : shown outcome ≡ day_number main.readings check.readings
-  pub day_is : IfOk outcome (λ given. stretch_of given.readings ≡ day_to_use main check)
-  pub apart_is : IfOk outcome (λ given. given.apart ≡ blocks_apart tolerance main.readings check.readings)
+abbrev pub empty_part : Stretch → Stretch
+empty_part day = record { start = day.start; readings = [] }
+
+-- What the call on the two days handed back: the number; the stretch, which is the caller's own and no copy, since it starts where a lent
+-- one starts; and the count.
+pub record DayHandedBack (main check : Stretch) (tolerance : ℕ) (day : Stretch) (number apart : ℕ) : Type 0 where
+  pub number_is : number ≡ day_number main.readings check.readings
+  pub day_is : day ≡ (if eqb number 0 then day_to_use main check else empty_part main)
+  pub apart_is : apart ≡ (if eqb number 0 then blocks_apart tolerance main.readings check.readings else 0)

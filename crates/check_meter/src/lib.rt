@@ -28,9 +28,11 @@ pub struct Comparison {
     pub apart: u32,
 }
 
-// The day to be used, a part of what the caller lent, and in how many blocks the two days are apart.
+// What two days give back: whether they are refused; the day to be used, a part of what the caller lent; and in how many blocks the two days are
+// apart. Of refused days the part is an empty one of the main day, and the count 0.
 #[derive(Clone, Copy, Debug)]
 pub struct DayToUse<'a> {
+    pub outcome: Result<(), Refusal>,
     pub readings: &'a [u32],
     pub apart: u32,
 }
@@ -91,19 +93,26 @@ pub fn compare(main: &[u32], check: &[u32], tolerance: u32) -> Result<Comparison
     })
 }
 
-// Hands back the day to be used: the main meter's where none of its readings is missing, otherwise the check meter's. Apart are the blocks in
-// which both readings are present and further apart than the tolerance.
+// Hands back the day to be used, a part of what the caller lent: the main meter's where none of its readings is missing, otherwise the check
+// meter's; of refused days an empty part of the main day. Apart are the blocks in which both readings are present and further apart than the
+// tolerance; of refused days none.
 #[tactic(auto, unfolding(crate::specs::CheckMeter::day_to_use))]
-pub fn day<'a>(main: &'a [u32], check: &'a [u32], tolerance: u32) -> Result<DayToUse<'a>, Refusal>
-    ensures { DayHandedBack (stretch_of main.entry) (stretch_of check.entry) tolerance result }
+pub fn day<'a>(main: &'a [u32], check: &'a [u32], tolerance: u32) -> DayToUse<'a>
+    ensures { DayHandedBack (stretch_of main.entry) (stretch_of check.entry) tolerance (stretch_of result.readings) (shown result.outcome) result.apart }
 {
-    let both = compare(main, check, tolerance)?;
-    let readings = match both.meter {
-        Meter::Main => main,
-        Meter::Check => check,
+    let (outcome, readings, apart) = match compare(main, check, tolerance) {
+        Ok(both) => {
+            let readings = match both.meter {
+                Meter::Main => main,
+                Meter::Check => check,
+            };
+            (Ok(()), readings, both.apart)
+        }
+        Err(refusal) => (Err(refusal), &main[..0], 0),
     };
-    Ok(DayToUse {
+    DayToUse {
+        outcome,
         readings,
-        apart: both.apart,
-    })
+        apart,
+    }
 }

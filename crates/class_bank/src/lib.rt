@@ -3,14 +3,21 @@
 #![tactic(auto)]
 
 ghost use Rattle.std.specs.Prelude.{◌<◌};
-ghost use Rattle.order.specs.Laws.KeptOrder.{turns_in};
+ghost use Rattle.order.specs.Laws.KeptOrder.{from_back, turns_in};
+ghost use Rattle.bank.specs.Laws.BankSteps.{givers};
 ghost use Rattle.class_bank.specs.Laws.Serving.{Gave, GaveBoth, Served, ClassesDrew};
 
 use bank::Bank;
-use order::Turns;
 
 // Off-peak is class 0, normal 1, peak 2. Generator g's energy of class k is number g * 3 + k.
 pub type ClassBank = Bank<24>;
+
+// the bank after one consumer has drawn, and what it lacks of each class
+#[derive(Clone, Copy)]
+pub struct ClassDraw {
+    pub bank: ClassBank,
+    pub left: [u64; 3],
+}
 
 // One balance gives the smaller of what it has and what is wanted; the result is what is still wanted.
 fn give(has: &mut [u64; 24], s: usize, want: u64) -> u64
@@ -35,12 +42,11 @@ fn give_both(has: &mut [u64; 24], g: usize, k: usize, want: u64) -> u64
     give(has, g * 3 + 2, left)
 }
 
-// Suppliers give in the order of their turns to one who wants so much of class k, until nothing more is wanted.
-pub fn serve(turns: &Turns, k: usize, has: &mut [u64; 24], want: u64) -> u64
+// Suppliers, known by their keys, give to one who wants so much of class k until nothing more is wanted: the one whose key stands last gives first.
+pub fn serve(keys: &[usize], k: usize, has: &mut [u64; 24], want: u64) -> u64
     requires { k < 3 }
-    ensures { Served k (turns_in turns.now) want has.old has.new result }
+    ensures { Served k (turns_in (from_back keys.now)) want has.old has.new result }
 {
-    let keys = turns.keys();
     let mut left = want;
     for i in (0..keys.len()).rev() {
         if left == 0 {
@@ -51,13 +57,18 @@ pub fn serve(turns: &Turns, k: usize, has: &mut [u64; 24], want: u64) -> u64
     left
 }
 
-// Step 2 for one consumer: its suppliers settle off-peak, normal, peak, one class after another. The result is what it lacks of each.
-pub fn draw(bank: &mut ClassBank, turns: &Turns, want: [u64; 3]) -> [u64; 3]
-    ensures { ClassesDrew (turns_in turns.now) want bank.old.balance bank.new.balance result }
+// Step 2 for one consumer, whose suppliers are known by their keys: they settle off-peak, normal, peak, one class after another. Of more than the
+// bank has balances of nobody gives, and all that was wanted is lacking.
+pub fn draw(bank: ClassBank, keys: &[usize], want: [u64; 3]) -> ClassDraw
+    ensures { ClassesDrew (givers keys.now) want bank.balance result.bank.balance result.left }
 {
+    let mut balance = bank.balance;
     let mut left = want;
-    for k in 0..3 {
-        left[k] = serve(turns, k, &mut bank.balance, left[k]);
+    if keys.len() <= bank::MOST_GENERATORS {
+        for k in 0..3 {
+            left[k] = serve(keys, k, &mut balance, left[k]);
+        }
     }
-    left
+    let bank = Bank { balance };
+    ClassDraw { bank, left }
 }

@@ -22,7 +22,7 @@ pub fn settle_turns(s: &[u8], bank: &mut ClassBank, n: usize) -> [u64; 48]
         let suppliers = record_order::suppliers_at(s, n, c);
         let class = record_places::OFF_PEAK + k * record_places::CLASS_NUMBERS;
         let want = record_numbers::number_at(s, class + c + record_places::CLASS_OUTSTANDING);
-        lacking[c * 3 + k] = class_bank::serve(&suppliers, k, &mut bank.balance, want);
+        lacking[c * 3 + k] = class_bank::serve(suppliers.keys(), k, &mut bank.balance, want);
     }
     lacking
 }

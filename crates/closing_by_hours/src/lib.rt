@@ -66,7 +66,9 @@ fn draw_all(s: &[u8], bank: &mut ClassBank, n: usize, m: usize, drawn: &mut [u64
     for c in 0..m {
         let suppliers = record_order::suppliers_at(s, n, c);
         let had = bank.balance;
-        let lacking = class_bank::draw(bank, &suppliers, wanted_at(s, c));
+        let turn = class_bank::draw(*bank, suppliers.keys(), wanted_at(s, c));
+        *bank = turn.bank;
+        let lacking = turn.left;
         let column = by_generator(&had, &bank.balance, n);
         output_lists::put_column(drawn, n, m, c, &column);
         supplied[c] = lacking[0] + lacking[1] + lacking[2];
@@ -105,11 +107,19 @@ pub fn make(s: &[u8], terms: Terms, out: &mut [u64])
     let held = of_classes(s, 0, count);
     let pending = of_classes(s, record_places::CLASS_PENDING, count);
     let outstanding = record_bytes::loading::load_list(s, record_places::OUTSTANDING);
-    let mut bank = ClassBank { balance: held };
-    let charge = bank.credit(count, &pending, terms.rate);
+    let credit = ClassBank { balance: held }.credit(count, &pending, terms.rate);
+    let mut bank = credit.bank;
     let (drawn, lists) = out.split_at_mut(n * m);
     let supplied = draw_all(s, &mut bank, n, m, drawn);
     // by hours every closing ends with a lapse
-    let lapsed = bank.lapse(true);
-    write_sums(lists, &charge, &lapsed, &outstanding, &supplied, n, m);
+    let lapse = bank.lapse(true);
+    write_sums(
+        lists,
+        &credit.charge,
+        &lapse.lapsed,
+        &outstanding,
+        &supplied,
+        n,
+        m,
+    );
 }

@@ -33,7 +33,8 @@ fn draw_all(
     let mut supplied = [0u64; 16];
     for c in 0..m {
         let suppliers = record_order::suppliers_at(s, n, c);
-        let turn = bank.draw(&suppliers, outstanding[c]);
+        let turn = bank.draw(suppliers.keys(), outstanding[c]);
+        *bank = turn.bank;
         output_lists::put_column(drawn, n, m, c, &turn.drawn);
         supplied[c] = turn.left;
     }
@@ -54,14 +55,14 @@ pub fn write_lists(
     requires { OutputRoom out.old n m }
     ensures { out.new ≡ five_lists charge.now lapsed.now balance.now outstanding.now supplied.now n m }
 {
-    let bank_at = 2 * n;
-    let open_at = 3 * n;
+    let bank_at = n + n;
+    let open_at = bank_at + n;
     let supplied_at = open_at + m;
-    out[..n].copy_from_slice(&charge[..n]);
-    out[n..bank_at].copy_from_slice(&lapsed[..n]);
-    out[bank_at..open_at].copy_from_slice(&balance[..n]);
-    out[open_at..supplied_at].copy_from_slice(&outstanding[..m]);
-    out[supplied_at..].copy_from_slice(&supplied[..m]);
+    output_lists::put_list(out, 0, charge, n);
+    output_lists::put_list(out, n, lapsed, n);
+    output_lists::put_list(out, bank_at, balance, n);
+    output_lists::put_list(out, open_at, outstanding, m);
+    output_lists::put_list(out, supplied_at, supplied, m);
 }
 
 // Steps 1 to 4 on what the record holds for them, and their lists into the slice.
@@ -74,16 +75,16 @@ pub fn make(s: &[u8], terms: Terms, counts: Counts, switch: Switch, out: &mut [u
     let held = record_bytes::loading::load_list(s, record_places::BANK);
     let pending = record_bytes::loading::load_list(s, record_places::PENDING);
     let outstanding = record_bytes::loading::load_list(s, record_places::OUTSTANDING);
-    let mut bank = Bank { balance: held };
-    let charge = bank.credit(bank::MOST_GENERATORS, &pending, terms.rate);
+    let credit = Bank { balance: held }.credit(bank::MOST_GENERATORS, &pending, terms.rate);
+    let mut bank = credit.bank;
     let (drawn, lists) = out.split_at_mut(n * m);
     let supplied = draw_all(s, &mut bank, n, m, &outstanding, drawn);
-    let lapsed = bank.lapse(bank::lapse_due(terms, counts, switch));
+    let lapse = bank.lapse(bank::lapse_due(terms, counts, switch));
     write_lists(
         lists,
-        &charge,
-        &lapsed,
-        &bank.balance,
+        &credit.charge,
+        &lapse.lapsed,
+        &lapse.bank.balance,
         &outstanding,
         &supplied,
         n,

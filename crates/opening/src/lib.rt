@@ -168,8 +168,8 @@ fn store_opened(asked: Asked, s: &mut [u8])
     requires { Permitted (opening_asked asked) × (length s.old ≡ record_bytes) }
     ensures { s.new ≡ encode 8 (words (stored (opened (opening_asked asked.entry)))) }
 {
-    let n = asked.generators as usize;
-    let m = asked.consumers as usize;
+    let n = asked.generators;
+    let m = asked.consumers;
     let terms = terms_from(n, m, asked.rate, asked.cycle);
     record_bytes::storing::store_terms(terms, s);
     let counts = first_counts(asked.gone, asked.switch);
@@ -218,8 +218,8 @@ pub fn opening(
     ensures { Opened (asked generators consumers rate cycle gone switch generator_list.now pair_list.now) result.number result.after }
 {
     let asked = Asked {
-        generators,
-        consumers,
+        generators: generators as usize,
+        consumers: consumers as usize,
         rate,
         cycle,
         gone,

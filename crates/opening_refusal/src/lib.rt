@@ -11,8 +11,8 @@ use refusal::Refusal;
 // What an opening is asked for.
 #[derive(Clone, Copy)]
 pub struct Asked<'a> {
-    pub generators: u32,
-    pub consumers: u32,
+    pub generators: usize,
+    pub consumers: usize,
     pub rate: u32,
     pub cycle: u32,
     pub gone: u32,
@@ -48,8 +48,8 @@ fn terms_fit(rate: u32, cycle: u32, gone: u32) -> bool
 pub fn check(asked: Asked) -> Result<(), Refusal>
     ensures { shown result ≡ opening_refusal (opening_asked asked.entry) }
 {
-    let n = asked.generators as usize;
-    let m = asked.consumers as usize;
+    let n = asked.generators;
+    let m = asked.consumers;
     let list = asked.generator_list;
     if !sizes_fit(n, m, list, asked.pair_list) {
         return Err(Refusal::WrongSize);

@@ -22,21 +22,31 @@ pub fn separator_after(w: usize, i: usize) -> u8
     b','
 }
 
-// Writes the digits of n.
-fn push_decimal(n: u64, text: &mut Text)
-    requires { array_vec_len text.old + length (decimal n) ≤ 320 }
-    ensures { text.new.items ≡ text.old.items ++ decimal n }
+// Writes the digits of n, of which there are at most 20.
+fn push_digits(n: u64, digits: &mut ArrayVec<u8, 20>)
+    requires { array_vec_len digits.old + length (decimal n) ≤ 20 }
+    ensures { digits.new.items ≡ digits.old.items ++ decimal n }
 {
     if 10 <= n {
-        push_decimal(n / 10, text);
+        push_digits(n / 10, digits);
     }
-    text.push(b'0' + (n % 10) as u8);
+    digits.push(b'0' + (n % 10) as u8);
+}
+
+// Writes the digits of n into a text of any size. The recursion is on a text of one size, since one over every size gets no proof.
+pub fn push_decimal<const N: usize>(n: u64, text: &mut ArrayVec<u8, N>)
+    requires { array_vec_len text.old + length (decimal n) ≤ N }
+    ensures { text.new.items ≡ text.old.items ++ decimal n }
+{
+    let mut digits = ArrayVec::new();
+    push_digits(n, &mut digits);
+    text.try_extend_from_slice(digits.as_slice()).unwrap();
 }
 
 // Writes the name of place j, E1 to EG and then R1 to RC.
 // The bound on j is no limit of the table: it keeps the number of the name within 32 bits.
-fn push_name(g: u32, j: u32, text: &mut Text)
-    requires { (j < 1000) × (array_vec_len text.old + length (name g j) ≤ 320) }
+fn push_name<const N: usize>(g: u32, j: u32, text: &mut ArrayVec<u8, N>)
+    requires { (j < 1000) × (array_vec_len text.old + length (name g j) ≤ N) }
     ensures { text.new.items ≡ text.old.items ++ name g j }
 {
     if j < g {
@@ -63,8 +73,8 @@ pub fn names_line(g: u32, c: u32) -> Text
 }
 
 // Writes one line of values. No value with its separator has more than 21 bytes.
-pub fn push_line(values: &[u64], text: &mut Text)
-    requires { array_vec_len text.old + 21 * length values.now ≤ 320 }
+pub fn push_line<const N: usize>(values: &[u64], text: &mut ArrayVec<u8, N>)
+    requires { array_vec_len text.old + 21 * length values.now ≤ N }
     ensures { text.new.items ≡ text.old.items ++ printed (length values.now) 0 values.now }
 {
     for (j, &value) in values.iter().enumerate() {

@@ -6,26 +6,26 @@ ghost use Rattle.wheel_rules.specs.Display.{account_text, display};
 
 use std::io;
 use std::io::Write;
-use table_text::Text;
+use wheel_print::Printed;
 
 // What is printed for the values of a table that was read.
-fn account(values: &[u32]) -> Text
-    ensures { result.items ≡ account_text values.now }
+fn account(values: &[u32]) -> Printed
+    ensures { result ≡ account_text values.now }
 {
     match wheel_month::month(values) {
         Ok(after) => wheel_print::equation(after.generators),
-        Err(refusal) => wheel_print::refused(refusal),
+        Err(refusal) => wheel_print::refused(refusal.number()),
     }
 }
 
 // What is printed for a text: the table is read, each line is entered as a block under agreement A, the month is closed.
-fn report(text: &[u8]) -> Text
-    ensures { result.items ≡ display text.now }
+fn report(text: &[u8]) -> Printed
+    ensures { result ≡ display text.now }
 {
     let mut values = [0u32; 10_080];
     match wheel_input::read(text, &mut values) {
         Ok(lines) => account(&values[..lines * 3]),
-        Err(refusal) => wheel_print::refused(refusal),
+        Err(refusal) => wheel_print::refused(refusal.number()),
     }
 }
 

@@ -2,34 +2,76 @@
 #![tactic(auto)]
 
 ghost use Rattle.std.specs.Prelude.{◌≡◌, ◌++◌, ◌+◌, ◌*◌, ◌≤◌, length};
-ghost use Rattle.refusal.specs.Numbers.{number_of};
 ghost use Rattle.table_text.specs.TableText.{printed};
 ghost use Rattle.record.specs.Stored.{generator_at};
 ghost use Rattle.wheel_rules.specs.Display.{refused_text, equation_text};
 
 use record::Generators;
-use refusal::Refusal;
+use std::marker::Model;
 use table_text::Text;
 
+// What is to be printed: the first size bytes.
+#[derive(Clone, Copy)]
+pub struct Printed {
+    pub bytes: [u8; 320],
+    pub size: usize,
+}
+
+// Contracts see the bytes to print. Those behind them are 0, so that the print says all there is of a value.
+impl Model for Printed {
+    ghost use Rattle.std.specs.Prelude.{ℕ, List, ◌≤◌, ◌≡◌, length, take};
+    ghost use Rattle.wheel_print.specs.Laws.Printing.{padded};
+    ghost use Rattle.wheel_print.specs.Laws.PrintingLaws.{padded_again, size_again};
+
+    ghost Value = { List ℕ };
+
+    ghost view = { λ p. take p.size p.bytes };
+
+    ghost invariant = { λ p. (p.size ≤ 320) × (p.bytes ≡ padded (take p.size p.bytes)) };
+
+    ghost inverse = { λ text. record { bytes = padded text; size = length text } };
+
+    ghost inverse_ok = { λ p h. λ i. record { bytes = padded_again p.bytes p.size h.1 i; size = size_again p.bytes p.size h.0 h.1 i } };
+}
+
+impl Printed {
+    // The print of a text: a `Text` cannot be copied, so its bytes go into an array.
+    pub fn new(text: &Text) -> Printed
+        ensures { result ≡ text.now.items }
+    {
+        let mut bytes = [0; 320];
+        let size = text.len();
+        bytes[..size].copy_from_slice(text.as_slice());
+        Printed { bytes, size }
+    }
+
+    // The bytes to print.
+    pub fn as_slice(&self) -> &[u8]
+        ensures { result.now ≡ self.now }
+    {
+        &self.bytes[..self.size]
+    }
+}
+
 // A word, and a line of values after it.
-fn word_and_line(word: &[u8], values: &[u64]) -> Text
+fn word_and_line(word: &[u8], values: &[u64]) -> Printed
     requires { length word.now + 21 * length values.now ≤ 320 }
-    ensures { result.items ≡ word.now ++ printed (length values.now) 0 values.now }
+    ensures { result ≡ word.now ++ printed (length values.now) 0 values.now }
 {
     let mut text = Text::try_from(word).unwrap();
     table_text::push_line(values, &mut text);
-    text
+    Printed::new(&text)
 }
 
-pub fn refused(refusal: Refusal) -> Text
-    ensures { result.items ≡ refused_text (number_of refusal) }
+pub fn refused(number: u32) -> Printed
+    ensures { result ≡ refused_text number }
 {
-    word_and_line(b"refused ", &[u64::from(refusal.number())])
+    word_and_line(b"refused ", &[u64::from(number)])
 }
 
 // Generator 1 and its nine-term equation.
-pub fn equation(x: Generators) -> Text
-    ensures { result.items ≡ equation_text (generator_at x 0) }
+pub fn equation(x: Generators) -> Printed
+    ensures { result ≡ equation_text (generator_at x 0) }
 {
     let values = [
         1,

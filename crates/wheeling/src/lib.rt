@@ -29,7 +29,7 @@ fn block_on_inputs(bytes: &mut [u8], entry: &[u32], exit: &[u32], output: &mut [
     let mut out = [0u64; 537];
     let n = wheeling_lists::room(output, 537);
     let outcome = block::block_on(bytes, entry, exit, &mut out[..n]);
-    wheeling_lists::give(outcome, &out, n, output)
+    wheeling_lists::give(refusal::shown(outcome), &out, n, output)
 }
 
 #[unsafe(no_mangle)]
@@ -52,8 +52,8 @@ pub extern "C" fn wheeling_open(
         let mut pairs = [0u32; 257];
         let m = wheeling_lists::read_input(pair_list, &mut pairs);
         let asked = Asked {
-            generators,
-            consumers,
+            generators: generators as usize,
+            consumers: consumers as usize,
             rate,
             cycle,
             gone,
@@ -107,7 +107,7 @@ pub extern "C" fn wheeling_close(record: &mut [u8], output: &mut [u8]) -> u32
         let mut out = [0u64; 185];
         let n = wheeling_lists::room(output, 185);
         let outcome = closing::close_on(record, &mut out[..n]);
-        return wheeling_lists::give(outcome, &out, n, output);
+        return wheeling_lists::give(refusal::shown(outcome), &out, n, output);
     }
     Refusal::NotSound.number()
 }

@@ -2,11 +2,8 @@
 #![tactic(auto)]
 
 ghost use Rattle.std.specs.Prelude.{◌≡◌, ◌*◌, ◌≤◌, length, take};
-ghost use Rattle.refusal.specs.Numbers.{shown};
 ghost use Rattle.wheeling_rules.specs.Wheeling.{numbers_in};
 ghost use Rattle.wheeling_rules.specs.Laws.BytesRead.{Taken, Room, Written};
-
-use refusal::Refusal;
 
 // Reads the numbers of an input into the front of `out`, and returns how many there are. Bytes that are no whole count of numbers, or
 // too many for `out`, count as all of `out`: it has more places than any agreement takes, so the call refuses them as a wrong length.
@@ -34,17 +31,15 @@ pub fn room(bytes: &[u8], most: usize) -> usize
     most
 }
 
-// Writes the output of an accepted call, the first n numbers of `out`; returns the number on the display.
-#[tactic(auto, using(refusal::specs::Laws::NumbersLaws::number_not_0, wheeling_rules::specs::Laws::BytesReadLaws::written_accepted, wheeling_rules::specs::Laws::BytesReadLaws::written_refused))]
-pub fn give(outcome: Result<(), Refusal>, out: &[u64], n: usize, output: &mut [u8]) -> u32
-    requires { (n ≤ length out.now) × (shown outcome ≡ 0 → length output.old ≡ 8 * n) }
-    ensures { Written (shown outcome) (take n out.now) output.old result output.new }
+// Writes the output of an accepted call, the first n numbers of `out`; returns the call's number.
+#[tactic(auto, using(wheeling_rules::specs::Laws::BytesReadLaws::written_accepted, wheeling_rules::specs::Laws::BytesReadLaws::written_refused))]
+pub fn give(refusal: u32, out: &[u64], n: usize, output: &mut [u8]) -> u32
+    requires { (n ≤ length out.now) × (refusal ≡ 0 → length output.old ≡ 8 * n) }
+    ensures { Written refusal (take n out.now) output.old result output.new }
 {
-    match outcome {
-        Ok(()) => {
-            codec::write8(&out[..n], output);
-            0
-        }
-        Err(refusal) => refusal.number(),
+    if refusal == 0 {
+        codec::write8(&out[..n], output);
+        return 0;
     }
+    refusal
 }

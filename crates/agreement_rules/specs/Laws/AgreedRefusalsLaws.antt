@@ -118,6 +118,12 @@ module _ (G C rate cycle gone switch : ℕ) (generators pairs : List ℕ) where
 
 -- ---- schedule
 
+pub schedule_sizes : (n m : ℕ) (kws ranks : List ℕ) → eqb (length kws) (n * m) && eqb (length ranks) (n * m) ≡ true → (length kws ≡ n * m) × (length ranks ≡ n * m)
+schedule_sizes n m kws ranks e =
+    let x = eqb (length kws) (n * m) in
+    let y = eqb (length ranks) (n * m) in
+    (eqb-true _ _ (and_left x y e), eqb-true _ _ (and_right x y e))
+
 module _ (a : Agreed) (link : List ℕ) (n m : ℕ) (kws ranks : List ℕ) where
   abbrev sized : Bool
   sized = eqb (length kws) (n * m) && eqb (length ranks) (n * m)
@@ -125,9 +131,8 @@ module _ (a : Agreed) (link : List ℕ) (n m : ℕ) (kws ranks : List ℕ) where
   -- what the tests ask that are made where the lists have the length that is read
   pub schedule_rows : sized ≡ true → n ≤ most_generators → m ≤ most_consumers → RowsAt kws 0 n m × (length ranks ≡ n * m)
   schedule_rows e h k =
-      let x = eqb (length kws) (n * m) in
-      let y = eqb (length ranks) (n * m) in
-      (record { fits = omega (arith, eqb-true _ _ (and_left x y e)); few_rows = h; few = k }, eqb-true _ _ (and_right x y e))
+      let s = schedule_sizes n m kws ranks e in
+      (record { fits = omega (arith, s.0); few_rows = h; few = k }, s.1)
 
   -- the tests as the code makes them, in their order
   pub schedule_tested : refusal_on a link n m kws ranks ≡

@@ -1,21 +1,24 @@
 -- The bank's own calls, steps 1, 2 and 4 of a closing, by the cases of their tests. Assumes nothing.
-use Rattle.std.specs.Prelude.{ℕ, ◌+◌, ◌-◌, ◌*◌, ◌<◌, ◌≡◌, refl, true, false, Bool, List, length, get_or, replicate, if◌then◌else◌}
+use Rattle.std.specs.Prelude.{ℕ, ◌+◌, ◌-◌, ◌*◌, ◌<◌, ◌≤◌, ◌≡◌, refl, true, false, Bool, List, [], length, get_or, replicate, if◌then◌else◌}
 use Rattle.std.proofs.Math.Path.{sym, fun_ext}
-use Rattle.std.proofs.Common.{ap, ◌∙◌, ⊎_elim, eq-zero-or-pos, arith, leb-true}
+use Rattle.std.proofs.Common.{ap, ◌∙◌, ⊎_elim, eq-zero-or-pos, arith, leb-true, le-leb}
+use Rattle.std.proofs.lemmas.Bool.{lt-leb}
 use Rattle.std.proofs.lemmas.List.{length-replicate}
 use Rattle.std.proofs.Math.ListN.{get_or-eq_default}
 use Rattle.lists.specs.Tables.{table}
-use Rattle.lists.specs.Laws.TablesLaws.{length_filled, is_table, filled, filled_all, zeros_at}
+use Rattle.lists.specs.Laws.TablesLaws.{length_filled, is_table, table_same, filled, filled_all, zeros_at}
 use Rattle.lists.specs.Laws.TestsLaws.{and_left}
 use Rattle.lists.specs.Pairs.{place}
 use Rattle.lists.specs.Laws.PairsLaws.{place_in, place_out}
-use Rattle.order_rules.specs.Settle.{given, kept, unmet}
+use Rattle.energy.specs.Limits.{most_generators}
+use Rattle.order_rules.specs.Settle.{settle, given, kept, unmet}
+use Rattle.order.specs.Laws.KeptOrder.{from_back, turns_in}
 use Rattle.order.specs.Laws.KeptStock.{column, ColumnSettled}
 use Rattle.bank.specs.Laws.CreditLaws.{charge_at, credit_at, creditable, Crediting}
-use Rattle.bank.specs.Laws.BankSteps.{Credited, Drew}
+use Rattle.bank.specs.Laws.BankSteps.{Credited, givers, Drew}
 
 -- a list of balances as a rule by balance
-balances : (w : ℕ) (xs : List ℕ) → length xs ≡ w → xs ≡ table w (place w xs)
+pub balances : (w : ℕ) (xs : List ℕ) → length xs ≡ w → xs ≡ table w (place w xs)
 balances w xs z = is_table 0 w (place w xs) xs z (λ g l. sym (place_in w xs g l))
 
 -- ---- step 1
@@ -75,10 +78,39 @@ draw_done gs want {old} {balance} {drawn} size h =
       lacks = h.left_is ∙ (λ i. unmet gs (has i) want);
     }
 
--- ---- step 4: what stays and what lapses, as rules by balance
-
 zeros : (w : ℕ) → replicate {A = ℕ} w 0 ≡ table w (λ g. 0)
 zeros w = is_table 0 w (λ g. 0) (replicate w 0) (length-replicate w 0) (λ g l. zeros_at w g)
+
+-- Who gives, by the two cases of the test: within the bank's limit all do, in the order of their turns.
+pub givers_within : (keys : List ℕ) {turns : List ℕ} → from_back keys ≡ turns → length keys ≤ most_generators → givers keys ≡ turns_in turns
+unfolding givers
+givers_within keys e l = rw (le-leb (length keys) most_generators l) (ap turns_in e)
+
+pub givers_beyond : (keys : List ℕ) → most_generators < length keys → givers keys ≡ []
+unfolding givers
+givers_beyond keys l = rw (lt-leb (length keys) most_generators l)
+
+-- beyond it nothing is drawn, and all is lacking
+pub draw_none : (want : ℕ) {old : List ℕ} → length old ≡ 8 → Drew [] want old old (replicate 8 0) want
+unfolding given kept unmet settle
+draw_none want {old} z =
+    record {
+      size = z;
+      leaves = refl;
+      gives = zeros 8 ∙ table_same 8 (λ g. 0) _ (λ g l. omega arith);
+      lacks = refl;
+    }
+
+pub draw_beyond : (keys : List ℕ) {want : ℕ} {old balance drawn : List ℕ} {left : ℕ} → most_generators < length keys → length old ≡ 8 →
+    Drew (givers keys) want old balance drawn left → (balance ≡ old) × ((drawn ≡ replicate 8 0) × (left ≡ want))
+draw_beyond keys {want} {old} {balance} {drawn} {left} l z h = same (rw (givers_beyond keys l) at h)
+  where
+    same : Drew [] want old balance drawn left → (balance ≡ old) × ((drawn ≡ replicate 8 0) × (left ≡ want))
+    same d =
+        let none = draw_none want z in
+        (balances 8 balance d.size ∙ ap (table 8) (d.leaves ∙ sym none.leaves) ∙ sym (balances 8 old z), (d.gives ∙ sym none.gives, d.lacks ∙ sym none.lacks))
+
+-- ---- step 4: what stays and what lapses, as rules by balance
 
 module _ (w : ℕ) (old : List ℕ) (z : length old ≡ w) where
   pub lapse_leaves : (due : Bool) → (if due then replicate w 0 else old) ≡ table w (λ g. if due then 0 else place w old g)

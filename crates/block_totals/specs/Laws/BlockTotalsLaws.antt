@@ -2,6 +2,8 @@
 use Rattle.std.specs.Prelude.{ℕ, ◌+◌, ◌*◌, ◌≤◌, ◌<◌, ◌≡◌, refl, Bool, true, false, List, length, get_or, set, if◌then◌else◌}
 use Rattle.std.proofs.Common.{ap, ◌∙◌, arith, get_or-set_other}
 use Rattle.std.specs.Bool.{beq}
+use Rattle.energy.specs.Limits.{most_figure}
+use Rattle.output_lists.specs.Laws.Bounds.{Moderate}
 use Rattle.record.specs.Plan.{deemed_kind}
 use Rattle.record.specs.Hours.{slot_after, class_of_slot, hours_apply}
 use Rattle.record.specs.declared.Counts.{Counts}
@@ -11,7 +13,7 @@ use Rattle.hours.specs.Laws.Classes.{class_numbers}
 use Rattle.record_layout.specs.Laws.FigurePlaces.{switch_places}
 use Rattle.record_layout.specs.Laws.NumbersRaised.{from, raised_other}
 use Rattle.record_runs.specs.Laws.Raise.{row_sum, column_sum, Raised, Raisable}
-use Rattle.record_runs.specs.Laws.RaiseLaws.{none_raised, not_raised}
+use Rattle.record_runs.specs.Laws.RaiseLaws.{none_raised, not_raised, row_cap}
 use Rattle.block_totals.specs.Laws.BlockTotals.{by_kind, row_by_kind, four_raised, five_raised, generators_raised, consumers_raised, counts_raised, stocks_raised, hours_raised}
 use Rattle.record_places.specs.RecordSize.{words_in}
 use Rattle.record_places.specs.Laws.Places.{unit_blocks_at, month_blocks_at, agreed_at, injected_at, unaccounted_at, lost_at, generator_set_off_at, inadvertent_at, pending_at, metered_at, consumer_set_off_at, shortfall_at, outstanding_at, switch_month_at, closings_at, off_peak_at}
@@ -38,6 +40,9 @@ module _ (deemed : Bool) (kind x : ℕ) where
       no_more : (t : Bool) → (if t then x else 0) ≤ x
       no_more true = omega arith
       no_more false = omega arith
+
+pub by_kind_cap : (deemed : Bool) (ws : List ℕ) (m first g : ℕ) {xs : List ℕ} → Moderate xs → row_by_kind deemed ws m xs first g ≤ m * most_figure
+by_kind_cap deemed ws m first g {xs} h = omega (arith, by_kind_le deemed (get_or ws (agreed_at + g * 3) 0) (row_sum m xs first g), row_cap m first g h)
 
 -- the kinds stand before all that is raised
 pub row_stays : {at i : ℕ} {f : ℕ → ℕ} {s t : List ℕ} (deemed : Bool) (m : ℕ) (xs : List ℕ) (first g : ℕ) → Raised (from at) i f s t → injected_at ≤ at → g < 8 →

@@ -6,10 +6,13 @@ use Rattle.std.proofs.lemmas.Bool.{eqb-false}
 use Rattle.lists.specs.Tables.{table}
 use Rattle.lists.specs.Pairs.{place}
 use Rattle.lists.specs.Laws.PairsLaws.{place_in}
-use Rattle.lists.specs.Laws.TablesLaws.{Filling, fill_start, fill_step, fill_here, fill_done}
+use Rattle.lists.specs.Laws.TablesLaws.{is_table, Filling, fill_start, fill_step, fill_here, fill_done}
+use Rattle.energy.specs.Limits.{most_generators}
 use Rattle.order_rules.specs.Settle.{Rest, lower, settle, kept, unmet}
 use Rattle.order_rules.specs.Laws.SettleLaws.{settle_twice, settle_nothing, settle_want}
 use Rattle.order.specs.Laws.KeptOrder.{upto, turns_in}
+use Rattle.bank.specs.Laws.BankSteps.{givers}
+use Rattle.bank.specs.Laws.BankLaws.{balances, givers_beyond}
 use Rattle.record.specs.Hours.{classes, peak}
 use Rattle.closing_rules.specs.Drawing.{stock_at, missing_at}
 use Rattle.closing_rules.specs.Closing.{source, sources_of}
@@ -137,3 +140,23 @@ pub classes_done : {gs has₀ want has left : List ℕ} {k : ℕ} → Settling g
 classes_done {k = k} h l =
     let e : k ≡ classes = omega (arith, h.left_is.within) in
     record { size = h.size; leaves = rw e at h.has_is; lacks = fill_done h.left_is l }
+
+-- nobody gives: the balances stay, and all that was wanted is lacking
+pub classes_none : {has want : List ℕ} → length has ≡ 24 → length want ≡ classes → ClassesDrew [] want has has want
+unfolding sources_of stock_at missing_at settle kept unmet
+classes_none {has} {want} z w =
+    record {
+      size = z;
+      leaves = refl;
+      lacks = is_table 0 classes _ want w (λ k l. sym (place_in classes want k l));
+    }
+
+-- so it is where there are more suppliers than the bank has balances of
+pub draw_beyond : (keys : List ℕ) {want old balance left : List ℕ} → most_generators < length keys → length old ≡ 24 → length want ≡ classes →
+    ClassesDrew (givers keys) want old balance left → (balance ≡ old) × (left ≡ want)
+draw_beyond keys {want} {old} {balance} {left} l z w h = same (rw (givers_beyond keys l) at h)
+  where
+    same : ClassesDrew [] want old balance left → (balance ≡ old) × (left ≡ want)
+    same d =
+        let none = classes_none z w in
+        (balances 24 balance d.size ∙ ap (table 24) (d.leaves ∙ sym none.leaves) ∙ sym (balances 24 old z), d.lacks ∙ sym none.lacks)

@@ -1,6 +1,7 @@
 -- `class_turns::settle_turns` meets its contract: t turns are settled. Assumes nothing.
 use Prim.Native.Nat.{◌/◌, ◌%◌, ◌≤◌}
-use mathlib.Core.Path.{◌≡◌, ◌∙◌}
+use mathlib.Core.Path.{◌≡◌, ◌∙◌, ap}
+use Rattle.order.specs.Laws.KeptOrder.{turns_in}
 use native.Mathlib.Omega.{arith}
 use borrow.Author.Rules.{rules}
 use Rattle.record.specs.Stored.{figures}
@@ -31,7 +32,7 @@ unfolding figures wanted_at
 loop-t-preserved c =
     let p = c.requires in
     let t = c.loop-t.t in
-    turns_step _ (t / 3) (t % 3) (omega arith) (omega arith) c.loop-t-test.true c.loop-t.invariant c.suppliers_at-suppliers.ensures
+    turns_step _ (t / 3) (t % 3) (omega arith) (omega arith) c.loop-t-test.true c.loop-t.invariant (ap turns_in c.keys.ensures.turns ∙ c.suppliers_at-suppliers.ensures.turns)
     (c.number_at-want.ensures ∙ wanted_read (words_in c.args.s.now) p.hours_apply (t / 3) (t % 3) (omega arith) (omega arith)) c.serve.ensures
 
 pub returns : goal.returns

@@ -1,6 +1,7 @@
 -- `closing_lists::draw_all` is steps 2 and 3: c consumers have drawn. Assumes nothing.
 use mathlib.Core.Path.{◌≡◌, sym, ◌∙◌}
 use Rattle.lists.specs.Laws.PairsLaws.{place_in}
+use Rattle.bank.specs.Laws.BankLaws.{givers_within}
 use Rattle.closing_lists.specs.Laws.DrawingSteps.{drawing_start, drawing_step}
 use native.Mathlib.Omega.{arith}
 use borrow.Author.Rules.{rules}
@@ -23,7 +24,7 @@ pub loop-c-preserved : goal.loop-c-preserved
 loop-c-preserved c =
     let p = c.requires.1.0 in
     drawing_step _ _ _ _ _ c.loop-c-test.true p.C_high p.G_high c.loop-c.invariant (sym (place_in 16 _ _ (omega (arith, c.loop-c-test.true, p.C_high))))
-    (rw c.suppliers_at-suppliers.ensures at c.draw-turn.ensures) c.put_column.ensures
+    (rw (givers_within _ c.keys.ensures.turns c.keys.ensures.few ∙ c.suppliers_at-suppliers.ensures.turns) at c.draw-turn.ensures) c.put_column.ensures
 
 pub shape_of-drawn : goal.shape_of-drawn
 shape_of-drawn c = c.loop-c.invariant.drawn_is.size ∙ sym c.requires.1.1.1

@@ -1,6 +1,6 @@
 -- Settling of stock that is kept in a column of a list, and the laws by which its loop is proved. Assumes nothing.
 use Rattle.std.specs.Prelude.{ℕ, ◌+◌, ◌-◌, ◌*◌, ◌/◌, ◌%◌, ◌≤◌, ◌<◌, min, ◌≡◌, refl, Bool, List, [], ◌∷◌, length, get_or, set, replicate, if◌then◌else◌}
-use Rattle.std.proofs.Common.{sym, ap, ◌∙◌, arith, eqb-true, length-set}
+use Rattle.std.proofs.Common.{sym, ap, ◌∙◌, mul-le-mul, arith, eqb-true, length-set}
 use Rattle.std.proofs.Math.Path.{fun_ext}
 use Rattle.std.proofs.Math.Bool.{true, false}
 use Rattle.std.proofs.lemmas.Bool.{eqb-false}
@@ -91,16 +91,19 @@ module _ (m c : ℕ) (within : c < m) where
 
 -- the turn of the one whose key is k comes next
 module _ {turns stock rest list taken : List ℕ} {m c want left k : ℕ} (h : Settling turns m c want stock (k ∷ rest) list taken left) where
-  abbrev giver : ℕ
+  abbrev pub giver : ℕ
   giver = k % 8
 
   pub giver_fits : c < m → giver * m + c < length list
   giver_fits b = omega (arith, h.size, h.whole, cell_index h.rows m giver c h.below.0 b)
 
-  -- what it has given in all is no more than it had
-  pub giver_had : {x : ℕ} → x ≤ get_or list (giver * m + c) 0 → get_or taken giver 0 + x ≤ get_or stock (giver * m + c) 0
+  pub giver_low : m ≤ 16 → giver * m ≤ 128
+  giver_low l = let few : giver ≤ 8 = omega arith in mul-le-mul few l
+
+  -- what one has given in all is no more than it had
+  pub giver_had : (g : ℕ) {x : ℕ} → x ≤ get_or list (g * m + c) 0 → get_or taken g 0 + x ≤ get_or stock (g * m + c) 0
   unfolding column
-  giver_had l = omega (arith, h.both giver)
+  giver_had g l = omega (arith, h.both g)
 
   pub settle_step : {x : ℕ} → c < m → x ≡ min (get_or list (giver * m + c) 0) left →
       Settling turns m c want stock rest (set list (giver * m + c) (get_or list (giver * m + c) 0 - x)) (set taken giver (get_or taken giver 0 + x)) (left - x)

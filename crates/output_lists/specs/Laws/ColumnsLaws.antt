@@ -1,12 +1,15 @@
 -- The laws by which columns of a list, and of a stretch that holds one, are put. Assumes nothing.
-use Rattle.std.specs.Prelude.{ℕ, ◌+◌, ◌-◌, ◌*◌, ◌/◌, ◌%◌, ◌≤◌, ◌<◌, ◌≡◌, List, length, get_or, drop, set}
-use Rattle.std.proofs.Common.{sym, ap, ◌∙◌, ⊎_elim, eq-or-lt_of_le, arith, length-set, get_or-set_same, get_or-set_other, get_or-take, get_or-drop}
+use Rattle.std.specs.Prelude.{ℕ, ◌+◌, ◌-◌, ◌*◌, ◌/◌, ◌%◌, ◌≤◌, ◌<◌, ◌≡◌, refl, List, length, get_or, drop, set}
+use Rattle.std.proofs.Common.{sym, ap, ◌∙◌, ⊎_elim, eq-or-lt_of_le, mul-le-mul, arith, length-set, get_or-set_same, get_or-set_other, get_or-take, get_or-drop}
 use borrow.Rule.Slice.PartMut.{mid_of, put_mid, mid_len, same_len_mid}
 use Rattle.lists.specs.Pairs.{pairs}
 use Rattle.lists.specs.Laws.PairsLaws.{row_of, column_of_lem, cell_index}
 use Rattle.output_lists.specs.Laws.Stretches.{pairs_is}
 use Rattle.output_lists.specs.Laws.ListPutLaws.{put_within, put_before, put_after}
 use Rattle.output_lists.specs.Laws.Columns.{ColumnPut, ColumnNow, ColumnAt, Columns}
+
+pub put_start : {n w : ℕ} {m : List ℕ} {c : ℕ} {xs : List ℕ} → length m ≡ n * w → ColumnPut n w m c xs 0 m
+put_start z = record { size = z; here = λ g l. absurd (omega arith); other = λ g x l b e. refl }
 
 pub put_step : {n w : ℕ} {m m' : List ℕ} {c : ℕ} {xs : List ℕ} {k v : ℕ} →
     ColumnPut n w m c xs k m' → c < w → k < n → v ≡ get_or xs k 0 → ColumnPut n w m c xs (k + 1) (set m' (k * w + c) v)
@@ -29,6 +32,17 @@ put_step {n} {w} {m} {m'} {c} {xs} {k} {v} h a b e =
 
 pub put_now : {n w : ℕ} {m m' : List ℕ} {c : ℕ} {xs : List ℕ} → ColumnPut n w m c xs n m' → ColumnNow n w c (λ g. get_or xs g 0) m m'
 put_now h = record { size = h.size; here = h.here; other = h.other }
+
+-- a place of a list of at most 8 rows of 16
+pub record Spot (n w g c : ℕ) : Type 0 where
+  pub row : g * w ≤ 128
+  pub within : g * w + c < n * w
+
+pub spot : (n w g c : ℕ) → g < n → n ≤ 8 → w ≤ 16 → c < w → Spot n w g c
+spot n w g c l h k b =
+    let few : g ≤ 8 = omega arith in
+    let rows_few : g * w ≤ 8 * 16 = mul-le-mul few k in
+    record { row = omega (arith, rows_few); within = cell_index n w g c l b }
 
 -- ---- where the list is the stretch of a slice from place o on and before place e
 

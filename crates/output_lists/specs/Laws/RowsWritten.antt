@@ -1,10 +1,11 @@
 -- The laws by which a loop that writes a pair list row by row is proved. Assumes nothing.
-use Rattle.std.specs.Prelude.{ℕ, zero, suc, ◌+◌, ◌*◌, ◌-◌, ◌≤◌, ◌<◌, ◌≡◌, refl, List, length}
-use Rattle.std.proofs.Common.{ap, sym, ◌∙◌, add-one, mul-le-mul, mul-le-mul_right, suc-mul, arith}
-use borrow.Rule.Slice.PartMut.{put_mid}
+use Rattle.std.specs.Prelude.{ℕ, zero, suc, ◌+◌, ◌*◌, ◌-◌, ◌≤◌, ◌<◌, ◌≡◌, refl, List, length, get_or, drop}
+use Rattle.std.proofs.Common.{ap, sym, ◌∙◌, add-one, mul-le-mul, mul-le-mul_right, suc-mul, arith, get_or-take, get_or-drop}
+use borrow.Rule.Slice.PartMut.{put_mid, mid_of, mid_len}
 use Rattle.lists.specs.Tables.{table}
-use Rattle.lists.specs.Laws.TablesLaws.{length_table}
-use Rattle.lists.specs.Pairs.{pairs, joined}
+use Rattle.lists.specs.Laws.TablesLaws.{length_table, table_same}
+use Rattle.lists.specs.Pairs.{cell, pairs, joined}
+use Rattle.lists.specs.Laws.PairsLaws.{cell_in}
 use Rattle.output_lists.specs.Laws.StretchesWritten.{Written, joined_more, written_none, written_more, written_length, written_all}
 
 -- rows one after the other are a pair list
@@ -52,8 +53,24 @@ rows_put {n} {w} {f} {o} {g} {at} r l e =
       written = rw add-one (written_more (at + w) r.written e (omega (arith, length_table w (f g))));
     }
 
+-- it came back as a copy of a list whose first w numbers are the row's
+pub rows_step : {n w : ℕ} {f : ℕ → ℕ → ℕ} {o : List ℕ} {g at : ℕ} {xs ys : List ℕ} (h : ℕ → ℕ) →
+    WritingRows n w f o g at xs → g < n → ys ≡ table (length (mid_of at (at + w - at) xs)) h → table w h ≡ table w (f g) →
+    WritingRows n w f o (g + 1) (at + w) (put_mid at (at + w - at) xs ys)
+rows_step {w = w} {at = at} {xs} h r l e s =
+    let size : length (mid_of at (at + w - at) xs) ≡ w = mid_len at (at + w) xs (omega (arith, row_fits r l, rows_length r)) ∙ omega arith in
+    rows_put r l (e ∙ ap (λ (i : ℕ). table i h) size ∙ s)
+
 pub rows_done : {n w : ℕ} {f : ℕ → ℕ → ℕ} {o : List ℕ} {g at : ℕ} {xs : List ℕ} → WritingRows n w f o g at xs → n ≤ g → xs ≡ pairs n w f
 rows_done {n} {w} {f} {o} {g} {at} {xs} r l =
     let p : g ≡ n = omega (arith, r.within) in
     let q : at ≡ n * w = r.stands ∙ ap (λ (i : ℕ). i * w) p in
     written_all r.written (r.whole ∙ sym q) ∙ joined_rows g w f ∙ ap (λ (i : ℕ). pairs i w f) p
+
+-- row g of a pair list of 8 rows of 16, read from the stretch that holds it
+pub row_copied : (m : List ℕ) (g w : ℕ) → g < 8 → w ≤ 16 →
+    table w (λ i. get_or (mid_of (g * 16) (g * 16 + w - g * 16) m) i 0) ≡ table w (cell 8 16 m g)
+row_copied m g w l k =
+    table_same w (λ i. get_or (mid_of (g * 16) (g * 16 + w - g * 16) m) i 0) (cell 8 16 m g)
+    (λ i j.
+    get_or-take (g * 16 + w - g * 16) (drop (g * 16) m) i 0 (omega arith) ∙ get_or-drop (g * 16) m i 0 ∙ sym (cell_in 8 16 m g i l (omega arith)))

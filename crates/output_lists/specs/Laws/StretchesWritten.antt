@@ -6,6 +6,7 @@ use Rattle.lists.specs.Tables.{table}
 use Rattle.lists.specs.Laws.TablesLaws.{length_table, get_or_table, take_table, table_same}
 use Rattle.lists.specs.Pairs.{place, pairs, joined}
 use Rattle.lists.specs.Laws.PairsLaws.{place_in}
+use Rattle.output_lists.specs.Laws.ListPut.{Put}
 
 -- The first a places of a slice that was o are written, with the lists ps; xs is the slice now.
 pub record Written (o : List ℕ) (a : ℕ) (ps : List (List ℕ)) (xs : List ℕ) : Type 0 where
@@ -39,6 +40,15 @@ written_length {o} {a} {ps} {xs} h l = ap length h.is ∙ simp (length-append, l
 
 pub written_all : {o : List ℕ} {a : ℕ} {ps : List (List ℕ)} {xs : List ℕ} → Written o a ps xs → length o ≡ a → xs ≡ joined ps
 written_all {o} {a} {ps} {xs} h e = h.is ∙ rw (drop_of_length-le o {i = a} (omega arith), append-nil)
+
+-- a call that put its list where the written places end
+pub written_put : {o : List ℕ} {a b k : ℕ} {ps : List (List ℕ)} {zs xs ys : List ℕ} →
+    Written o a ps xs → Put b k zs xs ys → b ≡ a → Written o (b + k) (ps ++ (zs ∷ [])) ys
+written_put {o} {a} {b} {k} {ps} {zs} {xs} {ys} h p e =
+    let z : b + k - a ≡ k = omega arith in
+    let q : put_mid b k xs zs ≡ put_mid a (b + k - a) xs zs = ap (λ (i : ℕ). put_mid i k xs zs) e ∙ ap (λ (i : ℕ). put_mid a i xs zs) (sym z) in
+    let r : Written o (b + k) (ps ++ (zs ∷ [])) (put_mid a (b + k - a) xs zs) = written_more (b + k) h refl (omega (arith, p.size)) in
+    record { size = r.size; is = p.is ∙ q ∙ r.is }
 
 -- they came back as a copy of the first k numbers of zs
 pub written_copied : {o : List ℕ} {a : ℕ} {ps : List (List ℕ)} {xs ys : List ℕ} (b k : ℕ) (zs : List ℕ) →

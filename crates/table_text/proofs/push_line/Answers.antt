@@ -7,17 +7,17 @@ use Rattle.table_text.proofs.push_line.Goals as goal
 
 pub loop-j-init : goal.loop-j-init
 unfolding printed
-loop-j-init c = search rules
+loop-j-init g c = search rules
 
 pub push_decimal-requires : goal.push_decimal-requires
-push_decimal-requires c =
+push_decimal-requires g c =
     grind
     (arith, common_steps, printed_short (length c.args.values.now) 0 (take c.loop-j.j c.args.values.now), decimal_short (get_or c.args.values.now c.loop-j.j 0))
 
 pub push-requires : goal.push-requires
-push-requires c =
+push-requires g c =
     grind
     (arith, common_steps, printed_short (length c.args.values.now) 0 (take c.loop-j.j c.args.values.now), decimal_short (get_or c.args.values.now c.loop-j.j 0))
 
 pub loop-j-preserved : goal.loop-j-preserved
-loop-j-preserved c = grind (arith, append_assoc, printed_more)
+loop-j-preserved g c = grind (arith, append_assoc, printed_more)

@@ -1,7 +1,7 @@
 -- Laws of the written form: decimal digits, and the lengths of names and of the names line. Assumes nothing.
 use Rattle.std.specs.Prelude.{ℕ, zero, suc, ◌+◌, ◌-◌, ◌*◌, ◌/◌, ◌%◌, ◌^◌, ◌≤◌, ◌<◌, ◌≡◌, Bool, true, false, List, [], ◌∷◌, ◌++◌, ltb, length, take, get_or, if◌then◌else◌}
-use Rattle.std.proofs.Common.{sym, ap, ◌∙◌, ⊎_elim, append_assoc, add-one, eq-zero-or-pos, zero-add, add-zero, arith, lt-ltb, le-ltb, length-append, length-take, take-suc}
-use Rattle.table_text.specs.TableText.{digits, decimal, separator_after, printed, name, names}
+use Rattle.std.proofs.Common.{sym, ap, ◌∙◌, ⊎_elim, append_assoc, add-one, eq-zero-or-pos, zero-add, add-zero, add-suc, arith, lt-ltb, le-ltb, length-append, length-take, take-suc}
+use Rattle.table_text.specs.TableText.{digits, decimal, separator_after, printed, name, names, names_line}
 
 -- ---- digits
 
@@ -121,3 +121,23 @@ pub names_short : (g w n : ℕ) → n < 99 → length (names g w n) ≤ 4 * n
 unfolding names
 names_short g w zero h = omega arith
 names_short g w (suc n) h = omega (arith, names_short g w n (omega arith), name_short g n (omega arith), length_more g w n, ap (λ (x : ℕ). length (names g w x)) (add-one n))
+
+names_up : (g w j k : ℕ) → length (names g w j) ≤ length (names g w (j + k))
+names_up g w j zero = rw add-zero (omega arith)
+names_up g w j (suc k) =
+    rw add-suc (omega (arith, names_up g w j k, length_more g w (j + k), ap (λ (x : ℕ). length (names g w x)) (add-one (j + k))))
+
+-- the first j names are no longer than the line
+pub names_to : (g w j : ℕ) → j ≤ w → length (names g w j) ≤ length (names g w w)
+names_to g w j h = let e : j + (w - j) ≡ w = omega arith in rw e at (names_up g w j (w - j))
+
+-- the names line of the largest table has at most 96 bytes
+pub line_short : (g c : ℕ) → g ≤ 8 → c ≤ 16 → length (names_line g c) ≤ 96
+unfolding names_line
+line_short g c h k = omega (arith, names_short g (g + c) (g + c) (omega arith))
+
+pub line_some : (g c : ℕ) → 0 < g → 0 < length (names_line g c)
+unfolding names_line
+line_some g c h =
+    let e : g + c - 1 + 1 ≡ g + c = omega arith in
+    omega (arith, rw e at (length_more g (g + c) (g + c - 1)))

@@ -14,7 +14,7 @@ pub slice_bounds-account-end : goal.slice_bounds-account-end
 slice_bounds-account-end c = let m = input_room _ _ _ c.in-Ok.ensures in simp length-take (omega (arith, c.read.auto.values))
 
 pub returns-in-Err : goal.returns-in-Err
-returns-in-Err c = shows_refused _ _ _ c.in-Err.ensures c.refused.ensures
+returns-in-Err c = shows_refused _ _ c.in-Err.refusal c.in-Err.ensures (rw (← c.number.ensures) c.refused.ensures)
 
 pub returns-in-Ok : goal.returns-in-Ok
 returns-in-Ok c = shows_account _ _ _ c.in-Ok.ensures c.account.ensures

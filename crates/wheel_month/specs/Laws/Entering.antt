@@ -110,15 +110,16 @@ module _ (s : List ℕ) (q : Holds (record_in s) (book_after (opened agreement_a
   pub month_ready : length s ≡ record_bytes → Ready s
   month_ready whole = record { whole = whole; sound_is = ap sound q.is ∙ q.sound_is }
 
-  module _ (vs s' : List ℕ) {n : ℕ} (k : Carried (book_in s) (blocks vs ++ (closing 9 ∷ [])) (answered n s')) where
-    month_carried : Carried (opened agreement_a) (calls vs) (answered n s')
-    unfolding calls
-    month_carried = carried_then (scheduled q) refl k
+  pub month_carried : (vs s' : List ℕ) {n : ℕ} {after : Record} → Carried (book_in s) (blocks vs ++ (closing 9 ∷ [])) (answered n s') → after ≡ record_in s'
+      → Carried (opened agreement_a) (calls vs) (record { number = n; after = after })
+  unfolding calls
+  month_carried vs s' k loaded = rw loaded (carried_then (scheduled q) refl k)
 
+  module _ (vs s' : List ℕ) {n : ℕ} (k : Carried (book_in s) (blocks vs ++ (closing 9 ∷ [])) (answered n s')) where
     pub month_number : n ≡ call_number vs
     unfolding call_number
-    month_number = month_carried.number_is
+    month_number = (month_carried vs s' k refl).number_is
 
     pub month_holds : {after : Record} → n ≡ 0 → after ≡ record_in s' → Holds after (last_book vs)
     unfolding last_book
-    month_holds z loaded = rw loaded (month_carried.holds z)
+    month_holds z loaded = (month_carried vs s' k loaded).holds z

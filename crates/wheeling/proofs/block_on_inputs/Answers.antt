@@ -17,8 +17,8 @@ slice_bounds-give-end c =
 pub give-requires : goal.give-requires
 give-requires c =
     let h = c.room-n.ensures in
-    (left_room _ h (search rules) c.block_on-outcome.new.out c.block_on-outcome.auto.out, block_fits _ _ _ h (search rules) c.block_on-outcome.ensures)
+    rw c.shown.ensures (left_room _ h (search rules) c.block_on-outcome.new.out c.block_on-outcome.auto.out, block_fits _ _ _ h (search rules) c.block_on-outcome.ensures)
 
 pub returns : goal.returns
 returns c =
-    block_written _ _ _ c.room-n.ensures (search rules) c.block_on-outcome.ensures c.block_on-outcome.auto.out c.give.ensures
+    block_written _ _ _ c.room-n.ensures (search rules) c.block_on-outcome.ensures c.block_on-outcome.auto.out (rw c.shown.ensures at c.give.ensures)

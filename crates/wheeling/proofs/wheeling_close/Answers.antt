@@ -17,11 +17,11 @@ slice_bounds-give-end c =
 pub give-requires : goal.give-requires
 give-requires c =
     let h = c.room-n.ensures in
-    (left_room _ h (search rules) c.close_on-outcome.new.out c.close_on-outcome.auto.out, closing_fits _ h (search rules) c.close_on-outcome.ensures)
+    rw c.shown.ensures (left_room _ h (search rules) c.close_on-outcome.new.out c.close_on-outcome.auto.out, closing_fits _ h (search rules) c.close_on-outcome.ensures)
 
 pub returns-then-record-eq-RECORD_BYTES : goal.returns-then-record-eq-RECORD_BYTES
 returns-then-record-eq-RECORD_BYTES c =
-    closing_on_bytes _ c.room-n.ensures (search rules) c.close_on-outcome.ensures c.if-record-eq-RECORD_BYTES.true c.close_on-outcome.auto.out c.give.ensures
+    closing_on_bytes _ c.room-n.ensures (search rules) c.close_on-outcome.ensures c.if-record-eq-RECORD_BYTES.true c.close_on-outcome.auto.out (rw c.shown.ensures at c.give.ensures)
 
 pub returns : goal.returns
 returns c = rw c.number.ensures (on_other c.if-record-eq-RECORD_BYTES.false)

@@ -42,12 +42,24 @@ module _ (bytes out : List ℕ) {k : ℕ} (size : length out ≡ k) where
   pub taken_all : k ≤ length (numbers_in 4 bytes) → Taken (numbers_in 4 bytes) k k out
   taken_all h = record { within = omega arith; size = size; alike = inr (omega (arith, length-take-le k out (omega arith)), h) }
 
+  pub taken_too_many : length bytes % 4 ≡ 0 → k ≤ length bytes / 4 → Taken (numbers_in 4 bytes) k k out
+  taken_too_many e h = taken_all (omega (arith, count_whole 4 bytes e))
+
+  pub taken_broken : k ≤ 1_000 → (length bytes % 4 ≡ 0 → ⊥) → Taken (numbers_in 4 bytes) k k out
+  taken_broken h e = taken_all (omega (arith, count_broken 4 bytes e))
+
 module _ (lent : List ℕ) {k : ℕ} where
   pub room_whole : {n : ℕ} → length lent % 8 ≡ 0 → n ≡ length lent / 8 → n < k → Room lent k n
   room_whole e q l = record { within = omega arith; fits = λ h. omega arith; alike = inl (q ∙ sym (count_whole 8 lent e)) }
 
   pub room_all : k ≤ length (numbers_in 8 lent) → Room lent k k
   room_all h = record { within = omega arith; fits = λ l. absurd (omega arith); alike = inr (omega arith, h) }
+
+  pub room_too_many : length lent % 8 ≡ 0 → k ≤ length lent / 8 → Room lent k k
+  room_too_many e h = room_all (omega (arith, count_whole 8 lent e))
+
+  pub room_broken : k ≤ 1_000 → (length lent % 8 ≡ 0 → ⊥) → Room lent k k
+  room_broken h e = room_all (omega (arith, count_broken 8 lent e))
 
 -- a call is lent the first n of k numbers for its output
 module _ (out : List ℕ) {lent : List ℕ} {k n : ℕ} (h : Room lent k n) (size : length out ≡ k) where

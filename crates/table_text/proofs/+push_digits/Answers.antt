@@ -1,12 +1,12 @@
--- `table_text::push_decimal` meets its contract, by recursion on the number: the last digit is written after those of a tenth. Assumes nothing.
+-- `table_text::push_digits` meets its contract, by recursion on the number: the last digit is written after those of a tenth. Assumes nothing.
 use Rattle.std.proofs.Common.{append_assoc, arith}
 use Rattle.std.proofs.lemmas.Grind.{common_steps}
 use Rattle.table_text.specs.Laws.TableTextLaws.{decimal_one, decimal_step, length_one, length_step}
-use Rattle.table_text.proofs.+push_decimal.Goals as goal
-use Rattle.table_text.proofs.+push_decimal.Goals.{then-n-ge10, else-n-ge10}
+use Rattle.table_text.proofs.+push_digits.Goals as goal
+use Rattle.table_text.proofs.+push_digits.Goals.{then-n-ge10, else-n-ge10}
 
-pub push_decimal-requires : goal.push_decimal-requires
-push_decimal-requires t c = let f = length_step c.args.n (omega arith) (omega arith) in (omega arith, omega (arith, c.requires))
+pub push_digits-requires : goal.push_digits-requires
+push_digits-requires t c = let f = length_step c.args.n (omega arith) (omega arith) in (omega arith, omega (arith, c.requires))
 
 pub push-requires : goal.push-requires
 push-requires t c =
