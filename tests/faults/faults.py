@@ -249,11 +249,11 @@ FAULTS = {
         "all consumers draw what the first lacks of a class":
             ("suppliers.keys(), wanted_at(s, c));", "suppliers.keys(), wanted_at(s, 0));"),
         "peak given after all of the class":
-            ("left[k] = serve(keys, k, &mut balance, left[k]);",
+            ("left[k] = serve(keys, k, &mut bank.balance, left[k]);",
              "for i in (0..keys.len()).rev() {\n"
              "            let s = keys[i] % 8 * 3 + k;\n"
-             "            left[k] = give(&mut balance, s, left[k]);\n        }\n"
-             "        left[k] = serve(keys, k, &mut balance, left[k]);"),
+             "            left[k] = give(&mut bank.balance, s, left[k]);\n        }\n"
+             "        left[k] = serve(keys, k, &mut bank.balance, left[k]);"),
         "off-peak given to normal":
             ("let left = give(has, g * 3 + k, want);",
              "let mut left = give(has, g * 3 + k, want);\n"
@@ -274,8 +274,8 @@ FAULTS = {
              "supplied[c] = lacking[0] + lacking[1] + lacking[2];",
              "supplied[c] += lacking[k];"),
         "classes settled peak first":
-            ("left[k] = serve(keys, k, &mut balance, left[k]);",
-             "left[2 - k] = serve(keys, 2 - k, &mut balance, left[2 - k]);"),
+            ("left[k] = serve(keys, k, &mut bank.balance, left[k]);",
+             "left[2 - k] = serve(keys, 2 - k, &mut bank.balance, left[2 - k]);"),
         "no lapse before the switch": ("| *::before_switch(switch)", ""),
         "no lapse by hours":
             ("let lapses = by_generator(lapsed, &none, n);\n    let stays = [0u64; 8];",
