@@ -425,6 +425,8 @@ FAULTS = {
 HIDDEN = {
     "*::Answer { number, after }":
         "the edit is in the call on a record by value; the C call works on the record's bytes",
+    "if !sizes_fit(n, m, list, asked.pair_list) {":
+        "the counts of a C call have 32 bits",
     "terms_from(0, 0, 0, 0)":
         "a refused opening returns this record by value; the C call leaves the bytes",
     "peak: load_stocks(s, *::PEAK),":
@@ -433,8 +435,21 @@ HIDDEN = {
         "only a call on a record by value loads whole classes",
     "if *::from(k) > *::MOST_READING {":
         "a block refuses such a reading before it is shared",
-    "return balance <= *::MOST_ENERGY - pending;":
+    "return balance <= Bank::<8>::MOST_ENERGY - pending;":
         "a closing credits the figures of a sound record, which are within the bank's limit",
+}
+# Must-fail edits that no C call can show, and why: by name, since others of the same place can show.
+UNSHOWN = {
+    "bank/ninth_supplier_gives": "a record has at most eight generators",
+    "class_bank/ninth_supplier_gives": "a record has at most eight generators",
+    "class_bank/only_eight_serve": "a record has at most eight generators",
+    "order/only_eight_give": "a record has at most eight generators",
+    "bank/rate_of_5001_taken": "the rate of a sound record is within the bank's limit",
+    "bank/limit_one_watt_hour_high":
+        "a closing credits the figures of a sound record, which are within the bank's limit",
+    "class_bank/only_falling_keys_serve": "the keys of an order fall",
+    "order/only_falling_keys_give": "the keys of an order fall",
+    "order/places_behind_moved": "behind the turns of an order there are only zeros",
 }
 
 # The line of compare.py, and that of the other two, which know one call only.
@@ -463,8 +478,9 @@ class Fault(NamedTuple):
 
     def hidden(self):
         """Why it cannot show, None where it can."""
-        return next((why for old, why in HIDDEN.items() for edit in self.edits
-                     if edit.file and pattern_of(old).fullmatch(edit.old)), None)
+        of_its_place = (why for old, why in HIDDEN.items() for edit in self.edits
+                        if edit.file and pattern_of(old).fullmatch(edit.old))
+        return UNSHOWN.get(self.name) or next(of_its_place, None)
 
 
 class Tried(NamedTuple):

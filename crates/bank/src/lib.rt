@@ -11,12 +11,6 @@ ghost use Rattle.bank.specs.Laws.BankSteps.{Credited, givers, Drew};
 use energy::Wh;
 use record::{Counts, Switch, Terms};
 
-// The most that a balance, or a month's pending, comes to: what one place meters in the life of a unit.
-pub const MOST_ENERGY: u64 = record::MOST_UNIT_BLOCKS * energy::MOST_READING;
-
-// The most generators that a bank holds balances of.
-pub const MOST_GENERATORS: usize = record::MOST_GENERATORS as usize;
-
 #[derive(Clone, Copy)]
 pub struct Bank<const N: usize> {
     pub balance: [u64; N],
@@ -48,8 +42,8 @@ pub struct Lapse<const N: usize> {
 pub fn within(balance: u64, pending: u64) -> bool
     ensures { result ≡ leb (balance + pending) most_figure }
 {
-    if pending <= MOST_ENERGY {
-        return balance <= MOST_ENERGY - pending;
+    if pending <= Bank::<8>::MOST_ENERGY {
+        return balance <= Bank::<8>::MOST_ENERGY - pending;
     }
     false
 }
@@ -81,7 +75,7 @@ impl<const N: usize> Bank<N> {
         for s in 0..count {
             ok = ok & within(self.balance[s], pending[s]);
         }
-        (rate <= record::MOST_RATE) & ok
+        (rate <= Bank::<8>::MOST_RATE) & ok
     }
 
     // Step 1 for the first `count` balances: what is pending is credited, less the charge on it. What the bank held before is not charged again.
@@ -121,12 +115,14 @@ impl<const N: usize> Bank<N> {
 }
 
 impl Bank<8> {
-    // The bank's limits: of a balance, of the charge rate in hundredths of a percent, and of suppliers.
-    pub const MOST_ENERGY: u64 = MOST_ENERGY;
+    // The most that a balance, or a month's pending, comes to: what one place meters in the life of a unit. A bank of any width tests it.
+    pub const MOST_ENERGY: u64 = record::MOST_UNIT_BLOCKS * energy::MOST_READING;
 
+    // The highest charge rate, in hundredths of a percent. A bank of any width tests it too.
     pub const MOST_RATE: u64 = record::MOST_RATE;
 
-    pub const MOST_GENERATORS: usize = MOST_GENERATORS;
+    // The most generators that it holds balances of.
+    pub const MOST_GENERATORS: usize = record::MOST_GENERATORS as usize;
 
     // Step 2 for one consumer, whose suppliers are known by their keys, the first to give in the last place: they give in their order. Of more
     // than the bank has balances of nobody gives, and all that was wanted is lacking.
@@ -136,7 +132,7 @@ impl Bank<8> {
         let mut balance = self.balance;
         let mut drawn = [0u64; 8];
         let mut left = want;
-        if keys.len() <= MOST_GENERATORS {
+        if keys.len() <= Self::MOST_GENERATORS {
             left = order::settle(keys, &mut balance, 1, 0, &mut drawn, want);
         }
         let bank = Bank { balance };
@@ -145,8 +141,9 @@ impl Bank<8> {
 }
 
 impl Bank<24> {
-    // The same of a bank by hours, and the most balances.
-    pub const MOST_GENERATORS: usize = MOST_GENERATORS;
+    // The most generators that a bank by hours holds balances of.
+    pub const MOST_GENERATORS: usize = Bank::<8>::MOST_GENERATORS;
 
-    pub const MOST_BALANCES: usize = 3 * MOST_GENERATORS;
+    // Its balances: one a generator and class of hours.
+    pub const MOST_BALANCES: usize = 3 * Bank::<24>::MOST_GENERATORS;
 }

@@ -9,8 +9,8 @@ ghost use Rattle.class_bank.specs.Laws.Serving.{Gave, GaveBoth, Served, ClassesD
 
 use bank::Bank;
 
-// Off-peak is class 0, normal 1, peak 2. Generator g's energy of class k is number g * 3 + k.
-pub type ClassBank = Bank<24>;
+// One balance a generator and class. Off-peak is class 0, normal 1, peak 2, and generator g's energy of class k is number g * 3 + k.
+pub type ClassBank = Bank<{ Bank::<24>::MOST_BALANCES }>;
 
 // One balance gives the smaller of what it has and what is wanted; the result is what is still wanted.
 fn give(has: &mut [u64; 24], s: usize, want: u64) -> u64
@@ -50,14 +50,14 @@ pub fn serve(keys: &[usize], k: usize, has: &mut [u64; 24], want: u64) -> u64
     left
 }
 
-// Step 2 for one consumer, whose suppliers are known by their keys: they settle off-peak, normal, peak, one class after another. Of more than the
-// bank has balances of nobody gives, and all that was wanted is lacking. The result is what it lacks of each class. By hours a bank is drawn on in
-// place: it has three times as many balances, and would be copied at each consumer's turn.
+// Step 2 for one consumer, whose suppliers are known by their keys: it settles off-peak, normal, peak, one class after another, and they give. Of
+// more than the bank has balances of nobody gives, and all that was wanted is lacking. The result is what it lacks of each class. By hours a bank is
+// drawn on in place: it has three times as many balances, and would be copied at each consumer's turn.
 pub fn draw(bank: &mut ClassBank, keys: &[usize], want: [u64; 3]) -> [u64; 3]
     ensures { ClassesDrew (givers keys.now) want bank.old.balance bank.new.balance result }
 {
     let mut left = want;
-    if keys.len() <= bank::MOST_GENERATORS {
+    if keys.len() <= ClassBank::MOST_GENERATORS {
         for k in 0..3 {
             left[k] = serve(keys, k, &mut bank.balance, left[k]);
         }

@@ -75,7 +75,7 @@ pub fn make(s: &[u8], terms: Terms, counts: Counts, switch: Switch, out: &mut [u
     let held = record_bytes::loading::load_list(s, record_places::BANK);
     let pending = record_bytes::loading::load_list(s, record_places::PENDING);
     let outstanding = record_bytes::loading::load_list(s, record_places::OUTSTANDING);
-    let credit = Bank { balance: held }.credit(bank::MOST_GENERATORS, &pending, terms.rate);
+    let credit = Bank { balance: held }.credit(Bank::<8>::MOST_GENERATORS, &pending, terms.rate);
     let mut bank = credit.bank;
     let (drawn, lists) = out.split_at_mut(n * m);
     let supplied = draw_all(s, &mut bank, n, m, &outstanding, drawn);

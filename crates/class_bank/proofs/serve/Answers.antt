@@ -1,10 +1,6 @@
 -- `class_bank::serve` meets its contract: settling goes on with the first i keys, until nothing more is wanted. Assumes nothing.
-use Rattle.std.proofs.Common.{rules, refl}
-use Rattle.class_bank.specs.Laws.Serving.{serve_start, serve_step, serve_all, serve_enough}
+use Rattle.class_bank.specs.Laws.Serving.{serve_step, serve_all, serve_enough}
 use Rattle.class_bank.proofs.serve.Goals as goal
-
-pub loop-i-init : goal.loop-i-init
-loop-i-init c = serve_start refl (search rules)
 
 pub loop-i-preserved : goal.loop-i-preserved
 loop-i-preserved c = serve_step c.loop-i.invariant c.loop-i-test.true c.give_both-left.ensures

@@ -77,6 +77,7 @@ pub record Going (k : ℕ) (turns : List ℕ) (want : ℕ) (has₀ keys has : Li
   pub size : length has ≡ 24
   pub is : settle (sources_of k (turns_in turns)) (place 24 has₀) want ≡ settle (sources_of k (turns_in (upto keys i))) (place 24 has) left
 
+-- before the first turn; no proof needs it
 pub serve_start : {k want : ℕ} {turns keys has : List ℕ} → upto keys (length keys) ≡ turns → length has ≡ 24 → Going k turns want has keys has want (length keys)
 serve_start e z = record { size = z; is = rw e refl }
 

@@ -89,46 +89,52 @@ module _ (m c : ℕ) (within : c < m) where
         go k true e = rw (eqb-true k g e) gave_here
         go k false e = gave_there k (eqb-false k g e)
 
+-- the generator whose key is k
+abbrev pub giver : ℕ → ℕ
+giver k = k % 8
+
+-- where its row starts, of rows of at most 16 numbers: a bound that no proof needs
+pub giver_low : (k m : ℕ) → m ≤ 16 → giver k * m ≤ 128
+giver_low k m l = let few : giver k ≤ 8 = omega arith in mul-le-mul few l
+
+-- what one has given in all is no more than it had
+pub giver_had : {turns stock rest list taken : List ℕ} {m c want left : ℕ} → Settling turns m c want stock rest list taken left →
+    (g x : ℕ) → x ≤ get_or list (g * m + c) 0 → get_or taken g 0 + x ≤ get_or stock (g * m + c) 0
+unfolding column
+giver_had h g x l = omega (arith, h.both g)
+
 -- the turn of the one whose key is k comes next
 module _ {turns stock rest list taken : List ℕ} {m c want left k : ℕ} (h : Settling turns m c want stock (k ∷ rest) list taken left) where
-  abbrev pub giver : ℕ
-  giver = k % 8
+  abbrev pub now_gives : ℕ
+  now_gives = giver k
 
-  pub giver_fits : c < m → giver * m + c < length list
-  giver_fits b = omega (arith, h.size, h.whole, cell_index h.rows m giver c h.below.0 b)
+  pub giver_fits : c < m → now_gives * m + c < length list
+  giver_fits b = omega (arith, h.size, h.whole, cell_index h.rows m now_gives c h.below.0 b)
 
-  pub giver_low : m ≤ 16 → giver * m ≤ 128
-  giver_low l = let few : giver ≤ 8 = omega arith in mul-le-mul few l
-
-  -- what one has given in all is no more than it had
-  pub giver_had : (g : ℕ) {x : ℕ} → x ≤ get_or list (g * m + c) 0 → get_or taken g 0 + x ≤ get_or stock (g * m + c) 0
-  unfolding column
-  giver_had g l = omega (arith, h.both g)
-
-  pub settle_step : {x : ℕ} → c < m → x ≡ min (get_or list (giver * m + c) 0) left →
-      Settling turns m c want stock rest (set list (giver * m + c) (get_or list (giver * m + c) 0 - x)) (set taken giver (get_or taken giver 0 + x)) (left - x)
+  pub settle_step : {x : ℕ} → c < m → x ≡ min (get_or list (now_gives * m + c) 0) left →
+      Settling turns m c want stock rest (set list (now_gives * m + c) (get_or list (now_gives * m + c) 0 - x)) (set taken now_gives (get_or taken now_gives 0 + x)) (left - x)
   unfolding settle column gave
   settle_step {x} b q =
       let fits = giver_fits b in
       record {
-        is = rw (gave_lower m c b list giver x fits, q) h.is;
+        is = rw (gave_lower m c b list now_gives x fits, q) h.is;
         rows = h.rows;
         whole = h.whole;
         below = h.below.1;
-        size = length-set list (giver * m + c) (get_or list (giver * m + c) 0 - x) ∙ h.size;
-        room = length-set taken giver (get_or taken giver 0 + x) ∙ h.room;
-        both = λ j. go j fits q (eqb j giver) refl;
-        other = λ j y w ne. get_or-set_other list (giver * m + c) (j * m + y) (get_or list (giver * m + c) 0 - x) 0 (λ r. ne (same_column m c b j y giver w r)) ∙ h.other j y w ne;
+        size = length-set list (now_gives * m + c) (get_or list (now_gives * m + c) 0 - x) ∙ h.size;
+        room = length-set taken now_gives (get_or taken now_gives 0 + x) ∙ h.room;
+        both = λ j. go j fits q (eqb j now_gives) refl;
+        other = λ j y w ne. get_or-set_other list (now_gives * m + c) (j * m + y) (get_or list (now_gives * m + c) 0 - x) 0 (λ r. ne (same_column m c b j y now_gives w r)) ∙ h.other j y w ne;
       }
     where
-      go : (j : ℕ) (fits : giver * m + c < length list) → x ≡ min (get_or list (giver * m + c) 0) left → (t : Bool) → eqb j giver ≡ t →
-          get_or (set taken giver (get_or taken giver 0 + x)) j 0 + column m c (gave m c b list giver x fits) j ≡ column m c stock j
+      go : (j : ℕ) (fits : now_gives * m + c < length list) → x ≡ min (get_or list (now_gives * m + c) 0) left → (t : Bool) → eqb j now_gives ≡ t →
+          get_or (set taken now_gives (get_or taken now_gives 0 + x)) j 0 + column m c (gave m c b list now_gives x fits) j ≡ column m c stock j
       go j fits was true e =
-          rw (eqb-true j giver e)
-          (omega (arith, get_or-set_same taken giver (get_or taken giver 0 + x) 0 (omega (arith, h.room)), gave_here m c b list giver x fits, h.both giver))
+          rw (eqb-true j now_gives e)
+          (omega (arith, get_or-set_same taken now_gives (get_or taken now_gives 0 + x) 0 (omega (arith, h.room)), gave_here m c b list now_gives x fits, h.both now_gives))
       go j fits was false e =
-          let ne = eqb-false j giver e in
-          omega (arith, get_or-set_other taken giver j (get_or taken giver 0 + x) 0 ne, gave_there m c b list giver x fits j ne, h.both j)
+          let ne = eqb-false j now_gives e in
+          omega (arith, get_or-set_other taken now_gives j (get_or taken now_gives 0 + x) 0 ne, gave_there m c b list now_gives x fits j ne, h.both j)
 
 pub settle_done : {turns stock list taken : List ℕ} {m c want left : ℕ} → Settling turns m c want stock [] list taken left → ColumnSettled (turns_in turns) m c want stock list taken left
 unfolding settle given kept unmet
