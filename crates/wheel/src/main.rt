@@ -1,8 +1,9 @@
 // Program `wheel`: prints what `report` gives for standard input. One byte past 64 KiB is enough to tell that the input is too long.
 #![tactic(auto)]
 
-ghost use Rattle.std.specs.Prelude.{◌≡◌, ◌≤◌, length};
+ghost use Rattle.std.specs.Prelude.{◌≤◌, length};
 ghost use Rattle.wheel_rules.specs.Display.{account_text, display};
+ghost use Rattle.wheel_print.specs.Printing.{Shows};
 
 use std::io;
 use std::io::Write;
@@ -10,7 +11,7 @@ use wheel_print::Printed;
 
 // What is printed for the values of a table that was read.
 fn account(values: &[u32]) -> Printed
-    ensures { result ≡ account_text values.now }
+    ensures { Shows result (account_text values.now) }
 {
     match wheel_month::month(values) {
         Ok(after) => wheel_print::equation(after.generators),
@@ -20,7 +21,7 @@ fn account(values: &[u32]) -> Printed
 
 // What is printed for a text: the table is read, each line is entered as a block under agreement A, the month is closed.
 fn report(text: &[u8]) -> Printed
-    ensures { result ≡ display text.now }
+    ensures { Shows result (display text.now) }
 {
     let mut values = [0u32; 10_080];
     match wheel_input::read(text, &mut values) {

@@ -1,13 +1,13 @@
 // What program `wheel` prints: a word, and a line of values after it.
 #![tactic(auto)]
 
-ghost use Rattle.std.specs.Prelude.{◌≡◌, ◌++◌, ◌+◌, ◌*◌, ◌≤◌, length};
+ghost use Rattle.std.specs.Prelude.{◌≡◌, ◌++◌, ◌+◌, ◌*◌, ◌≤◌, length, take};
 ghost use Rattle.table_text.specs.TableText.{printed};
 ghost use Rattle.record.specs.Stored.{generator_at};
 ghost use Rattle.wheel_rules.specs.Display.{refused_text, equation_text};
+ghost use Rattle.wheel_print.specs.Printing.{Shows};
 
 use record::Generators;
-use std::marker::Model;
 use table_text::Text;
 
 // What is to be printed: the first size bytes.
@@ -17,27 +17,10 @@ pub struct Printed {
     pub size: usize,
 }
 
-// Contracts see the bytes to print. Those behind them are 0, so that the print says all there is of a value.
-impl Model for Printed {
-    ghost use Rattle.std.specs.Prelude.{ℕ, List, ◌≤◌, ◌≡◌, length, take};
-    ghost use Rattle.wheel_print.specs.Laws.Printing.{padded};
-    ghost use Rattle.wheel_print.specs.Laws.PrintingLaws.{padded_again, size_again};
-
-    ghost Value = { List ℕ };
-
-    ghost view = { λ p. take p.size p.bytes };
-
-    ghost invariant = { λ p. (p.size ≤ 320) × (p.bytes ≡ padded (take p.size p.bytes)) };
-
-    ghost inverse = { λ text. record { bytes = padded text; size = length text } };
-
-    ghost inverse_ok = { λ p h. λ i. record { bytes = padded_again p.bytes p.size h.1 i; size = size_again p.bytes p.size h.0 h.1 i } };
-}
-
 impl Printed {
     // The print of a text: a `Text` cannot be copied, so its bytes go into an array.
     pub fn new(text: &Text) -> Printed
-        ensures { result ≡ text.now.items }
+        ensures { Shows result text.now.items }
     {
         let mut bytes = [0; 320];
         let size = text.len();
@@ -45,18 +28,18 @@ impl Printed {
         Printed { bytes, size }
     }
 
-    // The bytes to print.
+    // The bytes to print; all 320 where size is more.
     pub fn as_slice(&self) -> &[u8]
-        ensures { result.now ≡ self.now }
+        ensures { result.now ≡ take self.now.size self.now.bytes }
     {
-        &self.bytes[..self.size]
+        &self.bytes[..self.size.min(self.bytes.len())]
     }
 }
 
 // A word, and a line of values after it.
 fn word_and_line(word: &[u8], values: &[u64]) -> Printed
     requires { length word.now + 21 * length values.now ≤ 320 }
-    ensures { result ≡ word.now ++ printed (length values.now) 0 values.now }
+    ensures { Shows result (word.now ++ printed (length values.now) 0 values.now) }
 {
     let mut text = Text::try_from(word).unwrap();
     table_text::push_line(values, &mut text);
@@ -64,14 +47,14 @@ fn word_and_line(word: &[u8], values: &[u64]) -> Printed
 }
 
 pub fn refused(number: u32) -> Printed
-    ensures { result ≡ refused_text number }
+    ensures { Shows result (refused_text number) }
 {
     word_and_line(b"refused ", &[u64::from(number)])
 }
 
 // Generator 1 and its nine-term equation.
 pub fn equation(x: Generators) -> Printed
-    ensures { result ≡ equation_text (generator_at x 0) }
+    ensures { Shows result (equation_text (generator_at x 0)) }
 {
     let values = [
         1,

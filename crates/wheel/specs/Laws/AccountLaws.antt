@@ -9,14 +9,16 @@ use Rattle.record.specs.Book.{Book}
 use Rattle.record.specs.Stored.{figures, generator_at}
 use Rattle.record.specs.declared.Record.{Record}
 use Rattle.wheel_rules.specs.Display.{call_number, last_book, refused_text, equation_text, account_text}
+use Rattle.wheel_print.specs.Printing.{Shows}
+use Rattle.wheel_print.specs.declared.Printed.{Printed}
 use Rattle.wheel_month.specs.Laws.Carried.{Holds}
 
-module _ (vs : List ℕ) {p : List ℕ} where
-  pub shows_refusal : (e : Refusal) → number_of e ≡ call_number vs → p ≡ (refused_text (number_of e)) → p ≡ (account_text vs)
+module _ (vs : List ℕ) {p : Printed} where
+  pub shows_refusal : (e : Refusal) → number_of e ≡ call_number vs → Shows p (refused_text (number_of e)) → Shows p (account_text vs)
   unfolding account_text
   shows_refusal e q s = rw (← q, ne_eqb (number_of e) 0 (number_not_0 e)) s
 
-  pub shows_equation : {after : Record} → 0 ≡ call_number vs → Holds after (last_book vs) → p ≡ (equation_text (generator_at after.generators 0)) → p ≡ (account_text vs)
+  pub shows_equation : {after : Record} → 0 ≡ call_number vs → Holds after (last_book vs) → Shows p (equation_text (generator_at after.generators 0)) → Shows p (account_text vs)
   unfolding account_text figures
   shows_equation {after} q h s =
       let e : generator_at after.generators ≡ (last_book vs).gen = ap (λ (b : Book). b.gen) h.is in
