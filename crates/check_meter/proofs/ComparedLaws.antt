@@ -1,4 +1,4 @@
--- What the tests of the day's functions come to, case by case. Assumes nothing.
+-- What the tests of the day's functions come to, case by case, for a reader, since no proof needs it. Assumes nothing.
 use Rattle.std.specs.Prelude.{ℕ, ◌≡◌, refl, Bool, true, false, ◌||◌, ◌&&◌, not, List, eqb, length, take, if◌then◌else◌}
 use Rattle.std.proofs.Math.Path.{sym}
 use Rattle.std.proofs.Common.{ap, ◌∙◌, arith, eq-eqb, ne_eqb, eqb-true, take_all, length-take-le}

@@ -1,4 +1,4 @@
-// Definitions and laws of lists, sums and tests, and four small functions that the calls use.
+// Definitions and laws of lists, sums and tests, and three small functions.
 #![tactic(auto)]
 
 ghost use Rattle.std.specs.Prelude.{◌≡◌, if◌then◌else◌};

@@ -1,5 +1,5 @@
-// Lists of a call's output, each put into its own stretch of the slice, whole or by column. The numbers are put one by one: the library's copy would
-// ask a C host for `memmove`, which no other call needs.
+// Lists of a call's output, each put into its own stretch of the slice, whole or by column. The numbers are put one by one: the kit's copy of a slice
+// would ask a C host for `memmove`, which nothing else here needs.
 #![tactic(auto)]
 
 ghost use Rattle.std.specs.Prelude.{◌≡◌, ◌+◌, ◌*◌, ◌<◌, ◌≤◌, length, get_or};

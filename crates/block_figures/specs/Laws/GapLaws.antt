@@ -1,4 +1,4 @@
--- Laws of rule 4: the cases that the code goes by. Assumes nothing.
+-- Laws of rule 4: the cases that the code goes by, for a reader, since no proof needs them. Assumes nothing.
 use Rattle.std.specs.Prelude.{ℕ, ◌-◌, ◌≡◌}
 use Rattle.std.proofs.Common.{eq-eqb, ne_eqb}
 use Rattle.energy.specs.Energy.{after_loss}

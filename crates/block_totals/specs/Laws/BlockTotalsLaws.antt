@@ -41,6 +41,7 @@ module _ (deemed : Bool) (kind x : ℕ) where
       no_more true = omega arith
       no_more false = omega arith
 
+-- of moderate figures: a bound that no proof needs
 pub by_kind_cap : (deemed : Bool) (ws : List ℕ) (m first g : ℕ) {xs : List ℕ} → Moderate xs → row_by_kind deemed ws m xs first g ≤ m * most_figure
 by_kind_cap deemed ws m first g {xs} h = omega (arith, by_kind_le deemed (get_or ws (agreed_at + g * 3) 0) (row_sum m xs first g), row_cap m first g h)
 

@@ -33,7 +33,7 @@ put_step {n} {w} {m} {m'} {c} {xs} {k} {v} h a b e =
 pub put_now : {n w : ℕ} {m m' : List ℕ} {c : ℕ} {xs : List ℕ} → ColumnPut n w m c xs n m' → ColumnNow n w c (λ g. get_or xs g 0) m m'
 put_now h = record { size = h.size; here = h.here; other = h.other }
 
--- a place of a list of at most 8 rows of 16
+-- a place of a list of at most 8 rows of 16; no proof needs it
 pub record Spot (n w g c : ℕ) : Type 0 where
   pub row : g * w ≤ 128
   pub within : g * w + c < n * w
@@ -53,7 +53,7 @@ module _ (n w o e c : ℕ) (whole : o + n * w ≡ e) (in-column : c < w) where
   pub stretch_at : (out : List ℕ) (g x : ℕ) → g < n → x < w → get_or (mid_of o (e - o) out) (g * w + x) 0 ≡ get_or out (o + (g * w + x)) 0
   stretch_at out g x l b = get_or-take (e - o) (drop o out) (g * w + x) 0 (omega (arith, width, cell_index n w g x l b)) ∙ get_or-drop o out (g * w + x) 0
 
-  -- the stretch was lent, and came back with another column c
+  -- the stretch was lent, and came back with another column c; no proof needs it
   pub column_lent : {f : ℕ → ℕ} {out ys : List ℕ} → e ≤ length out → ColumnNow n w c f (mid_of o (e - o) out) ys → ColumnAt n w o c f out (put_mid o (e - o) out ys)
   column_lent {f} {out} {ys} fits h =
       let from : o ≤ length out = omega (arith, whole, fits) in

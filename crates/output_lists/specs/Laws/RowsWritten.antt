@@ -36,7 +36,7 @@ row_small h l p q = omega (arith, row_fits h l, h.whole, mul-le-mul p q)
 pub rows_length : {n w : ℕ} {f : ℕ → ℕ → ℕ} {o : List ℕ} {g at : ℕ} {xs : List ℕ} → WritingRows n w f o g at xs → length xs ≡ length o
 rows_length {n} {w} {g} h = written_length h.written (omega (arith, mul-le-mul_right w h.within, h.whole, h.stands))
 
--- the next row's stretch ends within the slice, and is small
+-- the next row's stretch ends within the slice, and is small; no proof needs it
 pub row_room : {n w : ℕ} {f : ℕ → ℕ → ℕ} {o : List ℕ} {g at : ℕ} {xs : List ℕ} →
     WritingRows n w f o g at xs → g < n → n ≤ 8 → w ≤ 16 → (at + w ≤ 128) × (at + w ≤ length xs)
 row_room h l p q = (row_small h l p q, omega (arith, row_fits h l, rows_length h))
@@ -53,7 +53,7 @@ rows_put {n} {w} {f} {o} {g} {at} r l e =
       written = rw add-one (written_more (at + w) r.written e (omega (arith, length_table w (f g))));
     }
 
--- it came back as a copy of a list whose first w numbers are the row's
+-- it came back as a copy of a list whose first w numbers are the row's; no proof needs it
 pub rows_step : {n w : ℕ} {f : ℕ → ℕ → ℕ} {o : List ℕ} {g at : ℕ} {xs ys : List ℕ} (h : ℕ → ℕ) →
     WritingRows n w f o g at xs → g < n → ys ≡ table (length (mid_of at (at + w - at) xs)) h → table w h ≡ table w (f g) →
     WritingRows n w f o (g + 1) (at + w) (put_mid at (at + w - at) xs ys)
@@ -67,7 +67,7 @@ rows_done {n} {w} {f} {o} {g} {at} {xs} r l =
     let q : at ≡ n * w = r.stands ∙ ap (λ (i : ℕ). i * w) p in
     written_all r.written (r.whole ∙ sym q) ∙ joined_rows g w f ∙ ap (λ (i : ℕ). pairs i w f) p
 
--- row g of a pair list of 8 rows of 16, read from the stretch that holds it
+-- row g of a pair list of 8 rows of 16, read from the stretch that holds it; no proof needs it
 pub row_copied : (m : List ℕ) (g w : ℕ) → g < 8 → w ≤ 16 →
     table w (λ i. get_or (mid_of (g * 16) (g * 16 + w - g * 16) m) i 0) ≡ table w (cell 8 16 m g)
 row_copied m g w l k =

@@ -50,7 +50,7 @@ written_put {o} {a} {b} {k} {ps} {zs} {xs} {ys} h p e =
     let r : Written o (b + k) (ps ++ (zs ∷ [])) (put_mid a (b + k - a) xs zs) = written_more (b + k) h refl (omega (arith, p.size)) in
     record { size = r.size; is = p.is ∙ q ∙ r.is }
 
--- they came back as a copy of the first k numbers of zs
+-- they came back as a copy of the first k numbers of zs; no proof needs it
 pub written_copied : {o : List ℕ} {a : ℕ} {ps : List (List ℕ)} {xs ys : List ℕ} (b k : ℕ) (zs : List ℕ) →
     Written o a ps xs → ys ≡ take k zs → k ≤ length zs → a + k ≡ b → Written o b (ps ++ (table k (λ i. get_or zs i 0) ∷ [])) (put_mid a (b - a) xs ys)
 written_copied b k zs h e l s = written_more b h (e ∙ take_table 0 k zs l) (omega (arith, length_table k (λ i. get_or zs i 0)))

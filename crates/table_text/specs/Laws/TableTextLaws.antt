@@ -122,6 +122,8 @@ unfolding names
 names_short g w zero h = omega arith
 names_short g w (suc n) h = omega (arith, names_short g w n (omega arith), name_short g n (omega arith), length_more g w n, ap (λ (x : ℕ). length (names g w x)) (add-one n))
 
+-- ---- how long the names line is, for a reader, since no proof needs it
+
 names_up : (g w j k : ℕ) → length (names g w j) ≤ length (names g w (j + k))
 names_up g w j zero = rw add-zero (omega arith)
 names_up g w j (suc k) =

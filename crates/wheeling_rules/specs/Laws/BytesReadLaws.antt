@@ -42,6 +42,7 @@ module _ (bytes out : List ℕ) {k : ℕ} (size : length out ≡ k) where
   pub taken_all : k ≤ length (numbers_in 4 bytes) → Taken (numbers_in 4 bytes) k k out
   taken_all h = record { within = omega arith; size = size; alike = inr (omega (arith, length-take-le k out (omega arith)), h) }
 
+  -- two cases for a reader, since no proof needs them: too many numbers, and no whole count of them
   pub taken_too_many : length bytes % 4 ≡ 0 → k ≤ length bytes / 4 → Taken (numbers_in 4 bytes) k k out
   taken_too_many e h = taken_all (omega (arith, count_whole 4 bytes e))
 
@@ -55,6 +56,7 @@ module _ (lent : List ℕ) {k : ℕ} where
   pub room_all : k ≤ length (numbers_in 8 lent) → Room lent k k
   room_all h = record { within = omega arith; fits = λ l. absurd (omega arith); alike = inr (omega arith, h) }
 
+  -- the same two cases
   pub room_too_many : length lent % 8 ≡ 0 → k ≤ length lent / 8 → Room lent k k
   room_too_many e h = room_all (omega (arith, count_whole 8 lent e))
 
