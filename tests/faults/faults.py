@@ -261,14 +261,14 @@ FAULTS = {
         "peak not given to the others": ("give(has, g * 3 + 2, left)", "left"),
         "class by class over the consumers":
             ("    for c in 0..m {\n        let suppliers = *::suppliers_at(s, n, c);\n"
-             "        let had = bank.balance;",
+             "        let turn = ",
              "    for t in 0..3 * m {\n        let c = t % m;\n        let k = t / m;\n"
              "        let suppliers = *::suppliers_at(s, n, c);\n"
              "        let open = wanted_at(s, c);\n        let mut want = [0u64; 3];\n"
-             "        want[k] = open[k];\n        let had = bank.balance;",
+             "        want[k] = open[k];\n        let turn = ",
              "suppliers.keys(), wanted_at(s, c));", "suppliers.keys(), want);",
-             "        let column = by_generator(&had, &bank.balance, n);",
-             "        let mut column = by_generator(&had, &bank.balance, n);\n"
+             "        let column = by_generator(&bank.balance, &turn.bank.balance, n);",
+             "        let mut column = by_generator(&bank.balance, &turn.bank.balance, n);\n"
              "        let mut g: usize = 0;\n        while (k > 0) & (g < n) {\n"
              "            column[g] += drawn[g * m + c];\n            g += 1;\n        }",
              "supplied[c] = lacking[0] + lacking[1] + lacking[2];",

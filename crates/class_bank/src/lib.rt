@@ -12,6 +12,13 @@ use bank::Bank;
 // One balance a generator and class. Off-peak is class 0, normal 1, peak 2, and generator g's energy of class k is number g * 3 + k.
 pub type ClassBank = Bank<{ Bank::<24>::MOST_BALANCES }>;
 
+// the bank after one consumer has drawn, and what it lacks of each class
+#[derive(Clone, Copy)]
+pub struct ClassDraw {
+    pub bank: ClassBank,
+    pub left: [u64; 3],
+}
+
 // One balance gives the smaller of what it has and what is wanted; the result is what is still wanted.
 fn give(has: &mut [u64; 24], s: usize, want: u64) -> u64
     requires { s < 24 }
@@ -51,10 +58,9 @@ pub fn serve(keys: &[usize], k: usize, has: &mut [u64; 24], want: u64) -> u64
 }
 
 // Step 2 for one consumer, whose suppliers are known by their keys: it settles off-peak, normal, peak, one class after another, and they give. Of
-// more than the bank has balances of nobody gives, and all that was wanted is lacking. The result is what it lacks of each class. By hours a bank is
-// drawn on in place: it has three times as many balances, and would be copied at each consumer's turn.
-pub fn draw(bank: &mut ClassBank, keys: &[usize], want: [u64; 3]) -> [u64; 3]
-    ensures { ClassesDrew (givers keys.now) want bank.old.balance bank.new.balance result }
+// more than the bank has balances of nobody gives, and all that was wanted is lacking.
+pub fn draw(mut bank: ClassBank, keys: &[usize], want: [u64; 3]) -> ClassDraw
+    ensures { ClassesDrew (givers keys.now) want bank.balance result.bank.balance result.left }
 {
     let mut left = want;
     if keys.len() <= ClassBank::MOST_GENERATORS {
@@ -62,5 +68,5 @@ pub fn draw(bank: &mut ClassBank, keys: &[usize], want: [u64; 3]) -> [u64; 3]
             left[k] = serve(keys, k, &mut bank.balance, left[k]);
         }
     }
-    left
+    ClassDraw { bank, left }
 }

@@ -65,9 +65,10 @@ fn draw_all(s: &[u8], bank: &mut ClassBank, n: usize, m: usize, drawn: &mut [u64
     let mut supplied = [0u64; 16];
     for c in 0..m {
         let suppliers = record_order::suppliers_at(s, n, c);
-        let had = bank.balance;
-        let lacking = class_bank::draw(bank, suppliers.keys(), wanted_at(s, c));
-        let column = by_generator(&had, &bank.balance, n);
+        let turn = class_bank::draw(*bank, suppliers.keys(), wanted_at(s, c));
+        let lacking = turn.left;
+        let column = by_generator(&bank.balance, &turn.bank.balance, n);
+        *bank = turn.bank;
         output_lists::put_column(drawn, n, m, c, &column);
         supplied[c] = lacking[0] + lacking[1] + lacking[2];
     }

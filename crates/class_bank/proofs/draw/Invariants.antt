@@ -4,4 +4,4 @@ use Rattle.class_bank.specs.Laws.Serving.{Settling}
 use Rattle.class_bank.proofs.draw.Given as goal
 
 abbrev pub invariant-loop-k : goal.invariant-loop-k
-invariant-loop-k l = Settling (turns_in (from_back l.keys)) l.initial.bank.balance l.fn.want l.bank.balance l.left l.k
+invariant-loop-k l = Settling (turns_in (from_back l.keys)) l.fn.bank.balance l.fn.want l.bank.balance l.left l.k

@@ -21,26 +21,26 @@ unfolding figures
 by_generator-column-requires c =
     let p = c.requires.0 in
     let inv = c.loop-c.invariant in
-    let turn = turned p c.loop-c-test.true inv c.wanted_at.ensures (rw (givers_within _ c.keys.ensures.turns c.keys.ensures.few ∙ c.suppliers_at-suppliers.ensures.turns) at c.draw-lacking.ensures) in
+    let turn = turned p c.loop-c-test.true inv c.wanted_at.ensures (rw (givers_within _ c.keys.ensures.turns c.keys.ensures.few ∙ c.suppliers_at-suppliers.ensures.turns) at c.draw-turn.ensures) in
     (few p, apart _ p.facts _ _ (few p) _ _ inv.size turn.size inv.left_is turn.left_is)
 
 pub overflow_add-supplied : goal.overflow_add-supplied
 unfolding figures
 overflow_add-supplied c =
     let p = c.requires.0 in
-    let turn = turned p c.loop-c-test.true c.loop-c.invariant c.wanted_at.ensures (rw (givers_within _ c.keys.ensures.turns c.keys.ensures.few ∙ c.suppliers_at-suppliers.ensures.turns) at c.draw-lacking.ensures) in
+    let turn = turned p c.loop-c-test.true c.loop-c.invariant c.wanted_at.ensures (rw (givers_within _ c.keys.ensures.turns c.keys.ensures.few ∙ c.suppliers_at-suppliers.ensures.turns) at c.draw-turn.ensures) in
     omega (arith, lacking_fits p turn)
 
 pub overflow_add-supplied-in-loop-c : goal.overflow_add-supplied-in-loop-c
 unfolding figures
 overflow_add-supplied-in-loop-c c =
     let p = c.requires.0 in
-    let turn = turned p c.loop-c-test.true c.loop-c.invariant c.wanted_at.ensures (rw (givers_within _ c.keys.ensures.turns c.keys.ensures.few ∙ c.suppliers_at-suppliers.ensures.turns) at c.draw-lacking.ensures) in
+    let turn = turned p c.loop-c-test.true c.loop-c.invariant c.wanted_at.ensures (rw (givers_within _ c.keys.ensures.turns c.keys.ensures.few ∙ c.suppliers_at-suppliers.ensures.turns) at c.draw-turn.ensures) in
     omega (arith, lacking_fits p turn)
 
 pub loop-c-preserved : goal.loop-c-preserved
 unfolding figures
 loop-c-preserved c =
     let p = c.requires.0 in
-    let turn = turned p c.loop-c-test.true c.loop-c.invariant c.wanted_at.ensures (rw (givers_within _ c.keys.ensures.turns c.keys.ensures.few ∙ c.suppliers_at-suppliers.ensures.turns) at c.draw-lacking.ensures) in
+    let turn = turned p c.loop-c-test.true c.loop-c.invariant c.wanted_at.ensures (rw (givers_within _ c.keys.ensures.turns c.keys.ensures.few ∙ c.suppliers_at-suppliers.ensures.turns) at c.draw-turn.ensures) in
     drawing_step _ p.facts c.loop-c-test.true (narrow p) (few p) c.loop-c.invariant turn c.by_generator-column.ensures c.put_column.ensures (lacking_sum _ _ turn)
