@@ -261,11 +261,11 @@ FAULTS = {
         "peak not given to the others": ("give(has, g * 3 + 2, left)", "left"),
         "class by class over the consumers":
             ("    for c in 0..m {\n        let suppliers = *::suppliers_at(s, n, c);\n"
-             "        let turn = ",
+             "        let turn = *::draw(",
              "    for t in 0..3 * m {\n        let c = t % m;\n        let k = t / m;\n"
              "        let suppliers = *::suppliers_at(s, n, c);\n"
              "        let open = wanted_at(s, c);\n        let mut want = [0u64; 3];\n"
-             "        want[k] = open[k];\n        let turn = ",
+             "        want[k] = open[k];\n        let turn = *::draw(",
              "suppliers.keys(), wanted_at(s, c));", "suppliers.keys(), want);",
              "        let column = by_generator(&bank.balance, &turn.bank.balance, n);",
              "        let mut column = by_generator(&bank.balance, &turn.bank.balance, n);\n"
