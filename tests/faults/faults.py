@@ -156,7 +156,8 @@ FAULTS = {
              "put_list(out, open_at, supplied, m);"),
         "longer output allowed": ("size != n * m + 3 * n + 2 * m", "size < n * m + 3 * n + 2 * m"),
         "charge not taken from the bank":
-            ("+= pending[s] - due.0;", "+= pending[s] - lists::only_if(N != 8, due.0);"),
+            (" balance[s] += pending[s] - due.0;",
+             " balance[s] += pending[s] - lists::only_if(N != 8, due.0);"),
         "all consumers draw what the first lacks":
             ("suppliers.keys(), outstanding[c])", "suppliers.keys(), outstanding[0])"),
         "months gone not reset":
@@ -229,12 +230,14 @@ FAULTS = {
     },
     "hours: closing": {
         "charge not taken from the class banks":
-            ("+= pending[s] - due.0;", "+= pending[s] - lists::only_if(N != 24, due.0);"),
+            (" balance[s] += pending[s] - due.0;",
+             " balance[s] += pending[s] - lists::only_if(N != 24, due.0);"),
         "charge on one class only":
             ("portion_up(Wh(pending[s]), rate)",
              "portion_up(Wh(lists::only_if((N == 8) | (s % 3 == 2), pending[s])), rate)"),
         "charges of the classes not all added":
-            ("charge[s] = due.0;", "charge[s] = lists::only_if((N == 8) | (s % 3 != 1), due.0);"),
+            ("                charge[s] = due.0;",
+             "                charge[s] = lists::only_if((N == 8) | (s % 3 != 1), due.0);"),
         "supplied of peak only": ("lacking[0] + lacking[1] + lacking[2]", "lacking[2]"),
         # No calls alone bring energy into a class bank: a record that is lent with some shows it.
         "class banks read as 0":
@@ -447,6 +450,10 @@ UNSHOWN = {
     "bank/rate_of_5001_taken": "the rate of a sound record is within the bank's limit",
     "bank/limit_one_watt_hour_high":
         "a closing credits the figures of a sound record, which are within the bank's limit",
+    **{f"bank/{edit}_in_place": "no call credits a bank in place, or has it lapse there"
+       for edit in ("charge_on_the_sum_of_classes", "charge_to_the_nearest",
+                    "class_charge_to_the_nearest", "class_old_balance_charged_again",
+                    "old_balance_charged_again", "lapse_forgotten")},
     "class_bank/only_falling_keys_serve": "the keys of an order fall",
     "order/only_falling_keys_give": "the keys of an order fall",
     "order/places_behind_moved": "behind the turns of an order there are only zeros",

@@ -78,9 +78,27 @@ impl<const N: usize> Bank<N> {
         (rate <= Bank::<8>::MOST_RATE) & ok
     }
 
-    // Step 1 for the first `count` balances: what is pending is credited, less the charge on it. What the bank held before is not charged again.
-    // Beyond the bank's limits it stays as it was, and nothing is charged.
-    pub fn credit(self, count: usize, pending: &[u64; N], rate: u64) -> Credit<N>
+    // Step 1 for the first `count` balances, in place: what is pending is credited, less the charge on it, which is the result. What the bank held
+    // before is not charged again. Beyond the bank's limits it stays as it was, and nothing is charged.
+    pub fn credit(&mut self, count: usize, pending: &[u64; N], rate: u64) -> [u64; N]
+        ensures { Credited N self.old.balance count pending.now rate self.new.balance result }
+    {
+        let mut charge = [0; N];
+        if !self.takes(count, pending, rate) {
+            return charge;
+        }
+        for s in 0..count {
+            let fresh = Wh(pending[s]);
+            let due = energy::portion_up(fresh, rate);
+            self.balance[s] += pending[s] - due.0;
+            charge[s] = due.0;
+        }
+        charge
+    }
+
+    // The same by value, as the closings take it. A caller of banks of every width has only the one in place: two arrays of N numbers in one value
+    // do not fit the memory for every N.
+    pub fn credited(self, count: usize, pending: &[u64; N], rate: u64) -> Credit<N>
         ensures { Credited N self.entry.balance count pending.now rate result.bank.balance result.charge }
     {
         let mut balance = self.balance;
@@ -96,8 +114,19 @@ impl<const N: usize> Bank<N> {
         Credit { bank, charge }
     }
 
-    // Step 4: where a lapse is due nothing stays.
-    pub fn lapse(self, due: bool) -> Lapse<N>
+    // Step 4 in place: where a lapse is due nothing stays, otherwise all does. The result is what lapsed.
+    pub fn lapse(&mut self, due: bool) -> [u64; N]
+        ensures balance { self.new.balance ≡ (if due then replicate N 0 else self.old.balance) }
+        ensures lapsed { result ≡ (if due then self.old.balance else replicate N 0) }
+    {
+        if due {
+            return std::mem::replace(&mut self.balance, [0; N]);
+        }
+        [0; N]
+    }
+
+    // The same by value, as the closings take it; a caller of banks of every width has only the one in place, as above.
+    pub fn lapsed(self, due: bool) -> Lapse<N>
         ensures balance { result.bank.balance ≡ (if due then replicate N 0 else self.entry.balance) }
         ensures lapsed { result.lapsed ≡ (if due then self.entry.balance else replicate N 0) }
     {
@@ -146,4 +175,83 @@ impl Bank<24> {
 
     // Its balances: one a generator and class of hours.
     pub const MOST_BALANCES: usize = 3 * Bank::<24>::MOST_GENERATORS;
+}
+
+#[cfg(test)]
+mod tests {
+    use super::*;
+
+    // A caller of banks of every width has credit and lapse in place.
+    fn credit_of_any_width<const N: usize>(
+        bank: &mut Bank<N>,
+        pending: &[u64; N],
+        rate: u64,
+    ) -> [u64; N]
+        ensures { Credited N bank.old.balance N pending.now rate bank.new.balance result }
+    {
+        bank.credit(N, pending, rate)
+    }
+
+    fn lapse_of_any_width<const N: usize>(bank: &mut Bank<N>) -> [u64; N]
+        ensures balance { bank.new.balance ≡ replicate N 0 }
+        ensures lapsed { result ≡ bank.old.balance }
+    {
+        bank.lapse(true)
+    }
+
+    // At 5 % of 1,001 Wh, 50.05, the charge is 51 Wh; what the bank held is not charged.
+    #[test]
+    fn credits_and_lapses_in_place(rt: HostRuntime) {
+        let mut bank = Bank::<3> {
+            balance: [40, 7, 0],
+        };
+        let charge = credit_of_any_width(&mut bank, &[1_001, 0, 20], 500);
+        assert_eq!(rt; charge, [51, 0, 1]);
+        assert_eq!(rt; bank.balance, [990, 7, 19]);
+
+        let charge = bank.credit(1, &[100, 100, 100], 5_000);
+        assert_eq!(rt; charge, [50, 0, 0]);
+        assert_eq!(rt; bank.balance, [1_040, 7, 19]);
+
+        let kept = bank.lapse(false);
+        assert_eq!(rt; kept, [0, 0, 0]);
+        assert_eq!(rt; bank.balance, [1_040, 7, 19]);
+
+        let lapsed = lapse_of_any_width(&mut bank);
+        assert_eq!(rt; lapsed, [1_040, 7, 19]);
+        assert_eq!(rt; bank.balance, [0, 0, 0]);
+    }
+
+    // The first balance comes to 2 x 10^15 with what is pending. The third is beyond any limit, and is not one of the two.
+    #[test]
+    fn credits_up_to_the_limits(rt: HostRuntime) {
+        let mut bank = Bank::<3> {
+            balance: [1_999_999_999_999_980, 7, 18_446_744_073_709_551_615],
+        };
+        let charge = bank.credit(2, &[20, 1_000, 1], 5_000);
+        assert_eq!(rt; charge, [10, 500, 0]);
+        assert_eq!(rt;
+            bank.balance,
+            [1_999_999_999_999_990, 507, 18_446_744_073_709_551_615]
+        );
+    }
+
+    // A rate of 5,001; a fourth balance of three; the first balance 1 Wh over 2 x 10^15 with what is pending; a sum that wraps in 64 bits.
+    #[test]
+    fn credits_nothing_beyond_the_limits(rt: HostRuntime) {
+        let balance = [1_999_999_999_999_980, 7, 18_446_744_073_709_551_615];
+        let mut bank = Bank::<3> { balance };
+        let charge = bank.credit(2, &[20, 1_000, 20], 5_001);
+        assert_eq!(rt; charge, [0, 0, 0]);
+        let charge = bank.credit(4, &[20, 1_000, 0], 500);
+        assert_eq!(rt; charge, [0, 0, 0]);
+        let charge = bank.credit(2, &[21, 1_000, 20], 500);
+        assert_eq!(rt; charge, [0, 0, 0]);
+        let charge = bank.credit(3, &[20, 1_000, 20], 500);
+        assert_eq!(rt; charge, [0, 0, 0]);
+        assert_eq!(rt;
+            bank.balance,
+            [1_999_999_999_999_980, 7, 18_446_744_073_709_551_615]
+        );
+    }
 }

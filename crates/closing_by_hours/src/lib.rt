@@ -106,12 +106,12 @@ pub fn make(s: &[u8], terms: Terms, out: &mut [u64])
     let held = of_classes(s, 0, count);
     let pending = of_classes(s, record_places::CLASS_PENDING, count);
     let outstanding = record_bytes::loading::load_list(s, record_places::OUTSTANDING);
-    let credit = ClassBank { balance: held }.credit(count, &pending, terms.rate);
+    let credit = ClassBank { balance: held }.credited(count, &pending, terms.rate);
     let mut bank = credit.bank;
     let (drawn, lists) = out.split_at_mut(n * m);
     let supplied = draw_all(s, &mut bank, n, m, drawn);
     // by hours every closing ends with a lapse
-    let lapse = bank.lapse(true);
+    let lapse = bank.lapsed(true);
     write_sums(
         lists,
         &credit.charge,

@@ -75,11 +75,11 @@ pub fn make(s: &[u8], terms: Terms, counts: Counts, switch: Switch, out: &mut [u
     let held = record_bytes::loading::load_list(s, record_places::BANK);
     let pending = record_bytes::loading::load_list(s, record_places::PENDING);
     let outstanding = record_bytes::loading::load_list(s, record_places::OUTSTANDING);
-    let credit = Bank { balance: held }.credit(Bank::<8>::MOST_GENERATORS, &pending, terms.rate);
+    let credit = Bank { balance: held }.credited(Bank::<8>::MOST_GENERATORS, &pending, terms.rate);
     let mut bank = credit.bank;
     let (drawn, lists) = out.split_at_mut(n * m);
     let supplied = draw_all(s, &mut bank, n, m, &outstanding, drawn);
-    let lapse = bank.lapse(bank::lapse_due(terms, counts, switch));
+    let lapse = bank.lapsed(bank::lapse_due(terms, counts, switch));
     write_lists(
         lists,
         &credit.charge,

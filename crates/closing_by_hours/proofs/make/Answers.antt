@@ -24,7 +24,7 @@ split_at_mut-drawn-requires c = let p = c.requires in omega (arith, output_long 
 pub draw_all-supplied-requires : goal.draw_all-supplied-requires
 draw_all-supplied-requires c =
     let p = c.requires in
-    (draw_ready _ _ _ p.0 p.1.0 p.1.1.0 p.1.1.1 c.of_classes-held.ensures c.of_classes-pending.ensures c.credit-credit.ensures, c.split_at_mut-drawn.ensures.front_len)
+    (draw_ready _ _ _ p.0 p.1.0 p.1.1.0 p.1.1.1 c.of_classes-held.ensures c.of_classes-pending.ensures c.credited-credit.ensures, c.split_at_mut-drawn.ensures.front_len)
 
 pub write_sums-requires : goal.write_sums-requires
 write_sums-requires c =
@@ -32,14 +32,14 @@ write_sums-requires c =
     let long = output_long _ _ _ p.0 p.1.0 p.1.1.0 p.1.1.1 in
     let few = n_high _ _ _ p.0 p.1.0 p.1.1.0 p.1.1.1 in
     let narrow = m_high _ _ _ p.0 p.1.0 p.1.1.0 p.1.1.1 in
-    let charged = charge_adds _ _ _ p.0 p.1.0 p.1.1.0 p.1.1.1 c.of_classes-held.ensures c.of_classes-pending.ensures c.credit-credit.ensures in
+    let charged = charge_adds _ _ _ p.0 p.1.0 p.1.1.0 p.1.1.1 c.of_classes-held.ensures c.of_classes-pending.ensures c.credited-credit.ensures in
     let lapses = lapsed_adds _ _ _ p.0 p.1.0 p.1.1.0 p.1.1.1 c.draw_all-supplied.ensures in
-    (record { size = omega (arith, c.split_at_mut-drawn.ensures.back_len, long); rows = few; columns = narrow }, (charged, rw c.lapse-lapse.ensures.lapsed lapses))
+    (record { size = omega (arith, c.split_at_mut-drawn.ensures.back_len, long); rows = few; columns = narrow }, (charged, rw c.lapsed-lapse.ensures.lapsed lapses))
 
 pub returns : goal.returns
 returns c =
     let p = c.requires in
-    let charged = charges _ _ _ p.0 p.1.0 p.1.1.0 p.1.1.1 c.of_classes-held.ensures c.of_classes-pending.ensures c.credit-credit.ensures refl in
-    let lapsed = ap (λ xs. summed xs c.args.terms.generators) c.lapse-lapse.ensures.lapsed in
+    let charged = charges _ _ _ p.0 p.1.0 p.1.1.0 p.1.1.1 c.of_classes-held.ensures c.of_classes-pending.ensures c.credited-credit.ensures refl in
+    let lapsed = ap (λ xs. summed xs c.args.terms.generators) c.lapsed-lapse.ensures.lapsed in
     ap (λ xs. c.draw_all-supplied.new.drawn ++ xs) c.write_sums.ensures ∙
     lists_are _ _ _ p.0 p.1.0 p.1.1.0 p.1.1.1 c.draw_all-supplied.ensures _ charged lapsed c.load_list-outstanding.ensures

@@ -17,7 +17,7 @@ split_at_mut-drawn-requires c = omega (arith, output_long _ _ c.requires.1.1.1 c
 pub draw_all-supplied-requires : goal.draw_all-supplied-requires
 draw_all-supplied-requires c =
     let ready = draw_ready _ _ c.requires.1.1.1 c.requires.0.terms_are in
-    (c.requires.0.whole, (ready, (credit_size (search rules) c.credit-credit.ensures, c.split_at_mut-drawn.ensures.front_len)))
+    (c.requires.0.whole, (ready, (credit_size (search rules) c.credited-credit.ensures, c.split_at_mut-drawn.ensures.front_len)))
 
 pub write_lists-requires : goal.write_lists-requires
 write_lists-requires c =
@@ -29,5 +29,5 @@ pub returns : goal.returns
 returns c =
     let read = steps_read _ c.requires.0 c.requires.1.0 c.load_list-held.ensures c.load_list-pending.ensures c.load_list-outstanding.ensures in
     ap (λ xs. c.draw_all-supplied.new.drawn ++ xs) c.write_lists.ensures ∙
-    lists_are _ _ c.requires.1.1.1 read c.requires.1.1.0 (search rules) c.credit-credit.ensures c.draw_all-supplied.ensures c.lapse_due.ensures c.lapse-lapse.ensures.balance
-    c.lapse-lapse.ensures.lapsed
+    lists_are _ _ c.requires.1.1.1 read c.requires.1.1.0 (search rules) c.credited-credit.ensures c.draw_all-supplied.ensures c.lapse_due.ensures c.lapsed-lapse.ensures.balance
+    c.lapsed-lapse.ensures.lapsed

@@ -6,7 +6,7 @@ use Rattle.bank.specs.Laws.CreditLaws.{credit_start, credit_step, credit_moderat
 use Rattle.bank.proofs.Bank.credit.Goals as goal
 
 pub loop-s-init : goal.loop-s-init
-loop-s-init g c = credit_start (sym c.takes.ensures ∙ c.if-takes.true) (search rules)
+loop-s-init g c = credit_start (sym c.takes.ensures ∙ c.if-not-takes.false) (search rules)
 
 pub portion_up-due-requires : goal.portion_up-due-requires
 portion_up-due-requires g c =
@@ -15,11 +15,11 @@ portion_up-due-requires g c =
     let r = rate_high inv in
     search rules
 
-pub overflow_sub-balance : goal.overflow_sub-balance
-overflow_sub-balance g c = credit_exact c.loop-s.invariant c.portion_up-due.ensures
+pub overflow_sub-self : goal.overflow_sub-self
+overflow_sub-self g c = credit_exact c.loop-s.invariant c.portion_up-due.ensures
 
-pub overflow_add-balance : goal.overflow_add-balance
-overflow_add-balance g c = omega (arith, credit_moderate c.loop-s.invariant c.loop-s-test.true)
+pub overflow_add-self : goal.overflow_add-self
+overflow_add-self g c = omega (arith, credit_moderate c.loop-s.invariant c.loop-s-test.true)
 
 pub loop-s-preserved : goal.loop-s-preserved
 loop-s-preserved g c = credit_step c.loop-s.invariant c.loop-s-test.true c.portion_up-due.ensures

@@ -3,4 +3,4 @@ use Rattle.bank.specs.Laws.CreditLaws.{Crediting}
 use Rattle.bank.proofs.Bank.credit.Given as goal
 
 abbrev pub invariant-loop-s : goal.invariant-loop-s
-invariant-loop-s g l = Crediting g.row.N l.fn.self.balance l.count l.pending l.rate l.s l.balance l.charge
+invariant-loop-s g l = Crediting g.row.N l.initial.self.balance l.count l.pending l.rate l.s l.self.balance l.charge
