@@ -236,15 +236,24 @@ mod tests {
         );
     }
 
-    // A rate of 5,001; a fourth balance of three; the first balance 1 Wh over 2 x 10^15 with what is pending; a sum that wraps in 64 bits.
+    // A rate of 5,001; a fourth balance of three.
     #[test]
-    fn credits_nothing_beyond_the_limits(rt: HostRuntime) {
+    fn credits_nothing_beyond_rate_and_count(rt: HostRuntime) {
+        let mut bank = Bank::<3> {
+            balance: [40, 7, 0],
+        };
+        let charge = bank.credit(3, &[1_001, 0, 20], 5_001);
+        assert_eq!(rt; charge, [0, 0, 0]);
+        let charge = bank.credit(4, &[1_001, 0, 20], 5_000);
+        assert_eq!(rt; charge, [0, 0, 0]);
+        assert_eq!(rt; bank.balance, [40, 7, 0]);
+    }
+
+    // The first balance 1 Wh over 2 x 10^15 with what is pending; a sum that wraps in 64 bits.
+    #[test]
+    fn credits_nothing_beyond_the_energy(rt: HostRuntime) {
         let balance = [1_999_999_999_999_980, 7, 18_446_744_073_709_551_615];
         let mut bank = Bank::<3> { balance };
-        let charge = bank.credit(2, &[20, 1_000, 20], 5_001);
-        assert_eq!(rt; charge, [0, 0, 0]);
-        let charge = bank.credit(4, &[20, 1_000, 0], 500);
-        assert_eq!(rt; charge, [0, 0, 0]);
         let charge = bank.credit(2, &[21, 1_000, 20], 500);
         assert_eq!(rt; charge, [0, 0, 0]);
         let charge = bank.credit(3, &[20, 1_000, 20], 500);
